@@ -1,0 +1,2 @@
+// The chain of places that keep one bucket, and what becomes of a packet there.
+pub mod way;

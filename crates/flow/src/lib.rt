@@ -1,0 +1,2 @@
+// Which session a packet belongs to, and which bucket the session is in.
+pub mod key;
