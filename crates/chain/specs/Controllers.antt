@@ -40,7 +40,7 @@ nextAt server ls = record { place = newestOf ls .place + 1; server = server }
 abbrev pub hasRoom : List Link → Bool
 hasRoom ls = ltb (length ls) 8 && ltb (newestOf ls .place) 4294967295
 
-abbrev beginsIn : Handover → ℕ → Control → Result Link Fault × Control
+abbrev pub beginsIn : Handover → ℕ → Control → Result Link Fault × Control
 beginsIn Idle server c = cond (hasRoom (c .kept)) (Ok (nextAt server (c .kept)), began (nextAt server (c .kept)) c) (Err ChainFull, c)
 beginsIn (AwaitStood l) server c = (Err Contradiction, c)
 beginsIn (AwaitTold l) server c = (Err Contradiction, c)
@@ -49,7 +49,7 @@ beginsIn (AwaitTold l) server c = (Err Contradiction, c)
 abbrev pub begins : ℕ → Control → Result Link Fault × Control
 begins server c = beginsIn (c .handover) server c
 
-abbrev stoodIn : Handover → ℕ → Control → Option Link × Control
+abbrev pub stoodIn : Handover → ℕ → Control → Option Link × Control
 stoodIn Idle n c = (None, c)
 stoodIn (AwaitStood l) n c = cond (eqb n (l .place)) (Some l, record { kept = c .kept; handover = AwaitTold l }) (None, c)
 stoodIn (AwaitTold l) n c = (None, c)
@@ -58,7 +58,7 @@ stoodIn (AwaitTold l) n c = (None, c)
 abbrev pub hearsStood : ℕ → Control → Option Link × Control
 hearsStood n c = stoodIn (c .handover) n c
 
-abbrev toldIn : Handover → ℕ → Link → Control → Bool × Control
+abbrev pub toldIn : Handover → ℕ → Link → Control → Bool × Control
 toldIn Idle n a c = (false, c)
 toldIn (AwaitStood l) n a c = (false, c)
 toldIn (AwaitTold l) n a c = cond (eqb n (newestOf (c .kept) .place) && sameLink a l) (true, record { kept = l ∷ c .kept; handover = Idle }) (false, c)

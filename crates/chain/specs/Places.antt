@@ -76,7 +76,7 @@ handle x p e = handleAt (x .link) p (x .standing) e
 
 -- MESSAGES AT A PLACE
 
-abbrev placed : Link → Result Standing Fault → Result Place Fault
+abbrev pub placed : Link → Result Standing Fault → Result Place Fault
 placed here (Ok x) = Ok (record { link = here; standing = x })
 placed here (Err f) = Err f
 
@@ -86,7 +86,7 @@ below n None = true
 below n (Some b) = ltb (b .place) n
 
 -- what is said of the place before, beside what is known: one that was forgotten since contradicts nothing
-abbrev agreesBefore : Option Link → Option Link → Bool
+abbrev pub agreesBefore : Option Link → Option Link → Bool
 agreesBefore said None = true
 agreesBefore None (Some b) = false
 agreesBefore (Some a) (Some b) = sameLink a b
@@ -100,7 +100,7 @@ stood said (Forgotten a) = Ok (Forgotten a)
 abbrev pub toldToStand : Option Link → Place → Result Place Fault
 toldToStand said x = cond (below (x .link .place) said) (placed (x .link) (stood said (x .standing))) (Err Contradiction)
 
-abbrev agreesAfter : Link → Link → Standing → Result Standing Fault
+abbrev pub agreesAfter : Link → Link → Standing → Result Standing Fault
 agreesAfter said known x = cond (sameLink said known) (Ok x) (Err Contradiction)
 
 abbrev pub followed : ℕ → Link → Standing → Result Standing Fault
@@ -130,7 +130,7 @@ gone empty (Stands None (Some a)) = cond empty (Some (Forgotten a)) None
 gone empty (Stands (Some b) a) = None
 gone empty (Forgotten a) = None
 
-abbrev replaced : Link → Option Standing → Option Place
+abbrev pub replaced : Link → Option Standing → Option Place
 replaced here (Some x) = Some (record { link = here; standing = x })
 replaced here None = None
 

@@ -1,0 +1,6 @@
+-- The contract is the theorem.
+use Rattle.bucket.proofs.Main.{main}
+use Rattle.bucket.proofs.every_run_keeps_sessions.Needs as need
+
+pub returns : need.returns
+returns c = main
