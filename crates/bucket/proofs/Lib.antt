@@ -6,3 +6,7 @@ pub mod Ranks
 pub mod Change
 pub mod Steps
 pub mod Main
+pub mod Cases
+pub mod Play
+pub mod Runs
+pub mod NearMisses
