@@ -61,8 +61,7 @@ impl Stage {
 
     fn say_to_balancers(&mut self) -> Result<(), Error> {
         for i in 0..self.telling.len() {
-            if i < self.telling.len()
-                && let Some(link) = self.telling[i]
+            if let Some(Some(link)) = self.telling.get(i).copied()
                 && let Ok(balancer) = u8::try_from(i)
             {
                 self.send(

@@ -182,8 +182,8 @@ impl Stage {
     // What the servers have no answer to.
     pub(super) fn servers_say(&mut self) -> Result<(), Error> {
         for i in 0..self.notices.len() {
-            if i < self.notices.len() {
-                self.say_notice(self.notices[i])?;
+            if let Some(notice) = self.notices.get(i).copied() {
+                self.say_notice(notice)?;
             }
         }
         Ok(())
