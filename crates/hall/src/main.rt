@@ -2,13 +2,18 @@
 mod text;
 
 use crate::text::EventText;
+use crate::text::EventTextDisplay;
 use crate::text::LinkText;
+use crate::text::LinkTextDisplay;
 use crate::text::MessageText;
+use crate::text::MessageTextDisplay;
 use crate::text::PlaceText;
+use crate::text::PlaceTextDisplay;
 use chain::handover::Handover;
 use fault::Error;
 use script::command::Command;
 use script::flow_text::FlowText;
+use script::flow_text::FlowTextDisplay;
 use script::read::read_line;
 use stage::stage::Stage;
 use std::env;

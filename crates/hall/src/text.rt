@@ -13,6 +13,7 @@ use stage::message::Machine;
 use stage::message::Message;
 use std::fmt;
 
+#[derive(Drop)]
 pub struct LinkText(pub Link);
 
 pub impl fmt::Display for LinkText as LinkTextDisplay {
@@ -22,6 +23,7 @@ pub impl fmt::Display for LinkText as LinkTextDisplay {
     }
 }
 
+#[derive(Drop)]
 struct NeighbourText(Option<Link>);
 
 impl fmt::Display for NeighbourText as NeighbourTextDisplay {
@@ -33,6 +35,7 @@ impl fmt::Display for NeighbourText as NeighbourTextDisplay {
     }
 }
 
+#[derive(Drop)]
 pub struct PlaceText(pub Place);
 
 pub impl fmt::Display for PlaceText as PlaceTextDisplay {
@@ -55,6 +58,7 @@ pub impl fmt::Display for PlaceText as PlaceTextDisplay {
     }
 }
 
+#[derive(Drop)]
 struct MachineText(Machine);
 
 impl fmt::Display for MachineText as MachineTextDisplay {
@@ -67,6 +71,7 @@ impl fmt::Display for MachineText as MachineTextDisplay {
     }
 }
 
+#[derive(Drop)]
 struct PacketText(Packet);
 
 impl fmt::Display for PacketText as PacketTextDisplay {
@@ -91,6 +96,7 @@ impl fmt::Display for PacketText as PacketTextDisplay {
     }
 }
 
+#[derive(Drop)]
 struct BodyText(Body);
 
 impl fmt::Display for BodyText as BodyTextDisplay {
@@ -132,6 +138,7 @@ impl fmt::Display for BodyText as BodyTextDisplay {
     }
 }
 
+#[derive(Drop)]
 pub struct MessageText(pub Message);
 
 pub impl fmt::Display for MessageText as MessageTextDisplay {
@@ -152,6 +159,7 @@ pub impl fmt::Display for MessageText as MessageTextDisplay {
     }
 }
 
+#[derive(Drop)]
 struct RefusalText(Refusal);
 
 impl fmt::Display for RefusalText as RefusalTextDisplay {
@@ -163,6 +171,7 @@ impl fmt::Display for RefusalText as RefusalTextDisplay {
     }
 }
 
+#[derive(Drop)]
 pub struct EventText(pub Event);
 
 pub impl fmt::Display for EventText as EventTextDisplay {
