@@ -1,4 +1,5 @@
 // The machines of one bucket, and how a command changes them.
+ghost use Rattle.stage.specs.Machines.{machines, FaultChangesNothing};
 use crate::event::Event;
 use crate::message::Body;
 use crate::message::Machine;
@@ -18,6 +19,7 @@ use fault::ErrorFromRefused;
 use fault::Fault;
 use flow::key::FlowKey;
 use script::command::Command;
+use std::alloc::AllocError;
 use std::alloc::Global;
 
 mod balancers;
@@ -109,39 +111,44 @@ impl Stage {
     }
 
     // One command. A fault has changed nothing.
-    pub fn play(&mut self, command: Command) -> Result<(), Error> {
+    pub fn play(&mut self, command: Command) -> Result<(), Error>
+        ensures { λ r. ⌜ FaultChangesNothing r (machines (now (self .entry))) (machines (now (self .exit))) ⌝ }
+    {
         self.seen.clear();
         match command {
             Command::Packet {
                 balancer,
                 flow,
                 opens,
-            } => self.packet_comes(balancer, flow, opens),
-            Command::Change { server } => self.change(server),
-            Command::Close { flow } => self.close(flow),
-            Command::Forget => self.forget(),
-            Command::Say => self.say_again(),
-            Command::Deliver { number } => self.deliver(number),
-            Command::Lose { number } => self.lose(number),
-            Command::Repeat { number } => self.repeat(number),
-            Command::Next => self.next(),
-            Command::All => self.all(),
-            Command::Nothing | Command::Title | Command::Show | Command::Reset { .. } => Ok(()),
+            } => self.packet_comes(balancer, flow, opens)?,
+            Command::Change { server } => self.change(server)?,
+            Command::Close { flow } => self.close(flow)?,
+            Command::Forget => self.forget()?,
+            Command::Say => self.say_again()?,
+            Command::Deliver { number } => self.deliver(number)?,
+            Command::Lose { number } => self.lose(number)?,
+            Command::Repeat { number } => self.repeat(number)?,
+            Command::Next => self.next()?,
+            Command::All => self.all()?,
+            Command::Nothing | Command::Title | Command::Show | Command::Reset { .. } => {}
         }
+        Ok(())
     }
 
-    fn see(&mut self, event: Event) -> Result<(), Error> {
+    fn see(&mut self, event: Event) -> Result<(), AllocError> {
         self.seen.push(event)?;
         Ok(())
     }
 
-    fn send(&mut self, from: Machine, to: Machine, body: Body) -> Result<(), Error> {
+    fn send(&mut self, from: Machine, to: Machine, body: Body) -> Result<(), AllocError> {
         let message = self.post.send(from, to, body)?;
         self.see(Event::Sent(message))
     }
 
     // A packet comes by a balancer, which sends it to the place that it knows, up.
-    fn packet_comes(&mut self, balancer: u8, flow: FlowKey, opens: bool) -> Result<(), Error> {
+    fn packet_comes(&mut self, balancer: u8, flow: FlowKey, opens: bool) -> Result<(), Error>
+        ensures { λ r. ⌜ FaultChangesNothing r (machines (now (self .entry))) (machines (now (self .exit))) ⌝ }
+    {
         let Some(known) = self.known.get(balancer as usize) else {
             return Err(Error::Of(Fault::NoSuch));
         };
@@ -156,46 +163,59 @@ impl Stage {
             Machine::Balancer(balancer),
             Machine::Server(at.server),
             Body::Packet(packet),
-        )
+        )?;
+        Ok(())
     }
 
-    fn close(&mut self, flow: FlowKey) -> Result<(), Error> {
+    fn close(&mut self, flow: FlowKey) -> Result<(), AllocError> {
         match self.sessions.close(flow) {
             Some(at) => self.see(Event::Closed { at, flow }),
             None => self.see(Event::NotOpen),
         }
     }
 
-    fn deliver(&mut self, number: u32) -> Result<(), Error> {
-        match self.post.take(number) {
-            Some(message) => self.handle(message),
-            None => Err(Error::Of(Fault::NoSuch)),
-        }
+    fn deliver(&mut self, number: u32) -> Result<(), Error>
+        ensures { λ r. ⌜ FaultChangesNothing r (machines (now (self .entry))) (machines (now (self .exit))) ⌝ }
+    {
+        let Some(message) = self.post.take(number) else {
+            return Err(Error::Of(Fault::NoSuch));
+        };
+        self.handle(message)?;
+        Ok(())
     }
 
-    fn next(&mut self) -> Result<(), Error> {
-        match self.post.take_oldest() {
-            Some(message) => self.handle(message),
-            None => Err(Error::Of(Fault::NoSuch)),
-        }
+    fn next(&mut self) -> Result<(), Error>
+        ensures { λ r. ⌜ FaultChangesNothing r (machines (now (self .entry))) (machines (now (self .exit))) ⌝ }
+    {
+        let Some(message) = self.post.take_oldest() else {
+            return Err(Error::Of(Fault::NoSuch));
+        };
+        self.handle(message)?;
+        Ok(())
     }
 
-    fn lose(&mut self, number: u32) -> Result<(), Error> {
-        match self.post.take(number) {
-            Some(message) => self.see(Event::Lost(message)),
-            None => Err(Error::Of(Fault::NoSuch)),
-        }
+    fn lose(&mut self, number: u32) -> Result<(), Error>
+        ensures { λ r. ⌜ FaultChangesNothing r (machines (now (self .entry))) (machines (now (self .exit))) ⌝ }
+    {
+        let Some(message) = self.post.take(number) else {
+            return Err(Error::Of(Fault::NoSuch));
+        };
+        self.see(Event::Lost(message))?;
+        Ok(())
     }
 
-    fn repeat(&mut self, number: u32) -> Result<(), Error> {
-        match self.post.find(number) {
-            Some(message) => self.send(message.from, message.to, message.body),
-            None => Err(Error::Of(Fault::NoSuch)),
-        }
+    fn repeat(&mut self, number: u32) -> Result<(), Error>
+        ensures { λ r. ⌜ FaultChangesNothing r (machines (now (self .entry))) (machines (now (self .exit))) ⌝ }
+    {
+        let Some(message) = self.post.find(number) else {
+            return Err(Error::Of(Fault::NoSuch));
+        };
+        self.send(message.from, message.to, message.body)?;
+        Ok(())
     }
 
     // Oldest first, until nothing is on its way.
-    fn all(&mut self) -> Result<(), Error> {
+    fn all(&mut self) -> Result<(), AllocError> {
         for _ in 0..MOST_HANDLED {
             let Some(message) = self.post.take_oldest() else {
                 return Ok(());
@@ -205,7 +225,7 @@ impl Stage {
         Ok(())
     }
 
-    fn handle(&mut self, message: Message) -> Result<(), Error> {
+    fn handle(&mut self, message: Message) -> Result<(), AllocError> {
         self.see(Event::Handled(message))?;
         match message.to {
             Machine::Controller => self.at_controller(message),
@@ -215,7 +235,7 @@ impl Stage {
     }
 
     // What nobody has answered yet is said again.
-    fn say_again(&mut self) -> Result<(), Error> {
+    fn say_again(&mut self) -> Result<(), AllocError> {
         self.controller_says()?;
         self.servers_say()
     }

@@ -4,10 +4,10 @@ use crate::event::Event;
 use crate::message::Body;
 use crate::message::Machine;
 use crate::message::Message;
-use fault::Error;
+use std::alloc::AllocError;
 
 impl Stage {
-    pub(super) fn at_balancer(&mut self, balancer: u8, message: Message) -> Result<(), Error> {
+    pub(super) fn at_balancer(&mut self, balancer: u8, message: Message) -> Result<(), AllocError> {
         let Body::Door { link } = message.body else {
             return self.see(Event::Ignored);
         };

@@ -1,4 +1,5 @@
 // The controller: a handover in its three phases, and what it does with answers.
+ghost use Rattle.stage.specs.Machines.{machines, FaultChangesNothing};
 use super::Stage;
 use crate::event::Event;
 use crate::message::Body;
@@ -9,13 +10,17 @@ use chain::place::Place;
 use chain::place::Standing;
 use chain::way::Link;
 use fault::Error;
+use fault::ErrorFromAlloc;
 use fault::ErrorFromFault;
 use fault::ErrorFromRefused;
 use fault::Fault;
+use std::alloc::AllocError;
 
 impl Stage {
     // A handover begins: the new place is told to stand.
-    pub(super) fn change(&mut self, server: u8) -> Result<(), Error> {
+    pub(super) fn change(&mut self, server: u8) -> Result<(), Error>
+        ensures { λ r. ⌜ FaultChangesNothing r (machines (now (self .entry))) (machines (now (self .exit))) ⌝ }
+    {
         if server >= self.servers {
             return Err(Error::Of(Fault::NoSuch));
         }
@@ -25,10 +30,11 @@ impl Stage {
                 link,
                 standing: Standing::Never,
             })?;
-        self.tell_to_stand(link)
+        self.tell_to_stand(link)?;
+        Ok(())
     }
 
-    fn tell_to_stand(&mut self, place: Link) -> Result<(), Error> {
+    fn tell_to_stand(&mut self, place: Link) -> Result<(), AllocError> {
         let before = self.chain.newest();
         self.send(
             Machine::Controller,
@@ -37,7 +43,7 @@ impl Stage {
         )
     }
 
-    fn tell_newest(&mut self, after: Link) -> Result<(), Error> {
+    fn tell_newest(&mut self, after: Link) -> Result<(), AllocError> {
         let newest = self.chain.newest();
         self.send(
             Machine::Controller,
@@ -50,7 +56,7 @@ impl Stage {
     }
 
     // A newer message to a balancer takes the place of one that it has not answered.
-    fn tell_balancers(&mut self) -> Result<(), Error> {
+    fn tell_balancers(&mut self) -> Result<(), AllocError> {
         let newest = self.chain.newest();
         self.see(Event::HandedOver { newest })?;
         for telling in self.telling.iter_mut() {
@@ -59,7 +65,7 @@ impl Stage {
         self.say_to_balancers()
     }
 
-    fn say_to_balancers(&mut self) -> Result<(), Error> {
+    fn say_to_balancers(&mut self) -> Result<(), AllocError> {
         for i in 0..self.telling.len() {
             if let Some(Some(link)) = self.telling.get(i).copied()
                 && let Ok(balancer) = u8::try_from(i)
@@ -74,7 +80,7 @@ impl Stage {
         Ok(())
     }
 
-    pub(super) fn at_controller(&mut self, message: Message) -> Result<(), Error> {
+    pub(super) fn at_controller(&mut self, message: Message) -> Result<(), AllocError> {
         match message.body {
             Body::Stood { place } => match self.chain.stood(place.place) {
                 Some(after) => self.tell_newest(after),
@@ -99,7 +105,7 @@ impl Stage {
         }
     }
 
-    fn balancer_heard(&mut self, from: Machine, link: Link) -> Result<(), Error> {
+    fn balancer_heard(&mut self, from: Machine, link: Link) -> Result<(), AllocError> {
         if let Machine::Balancer(balancer) = from
             && let Some(telling) = self.telling.get_mut(balancer as usize)
             && let Some(told) = *telling
@@ -112,7 +118,7 @@ impl Stage {
     }
 
     // What the controller has no answer to.
-    pub(super) fn controller_says(&mut self) -> Result<(), Error> {
+    pub(super) fn controller_says(&mut self) -> Result<(), AllocError> {
         match self.chain.handover() {
             Handover::Idle => {}
             Handover::AwaitStood(link) => self.tell_to_stand(link)?,

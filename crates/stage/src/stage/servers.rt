@@ -10,9 +10,8 @@ use chain::place::Place;
 use chain::place::Standing;
 use chain::way::Link;
 use chain::way::Packet;
-use fault::Error;
-use fault::ErrorFromRefused;
 use fault::Fault;
+use std::alloc::AllocError;
 
 impl Stage {
     fn place_of(&self, link: Link) -> Option<Place> {
@@ -32,7 +31,7 @@ impl Stage {
         }
     }
 
-    pub(super) fn at_server(&mut self, server: u8, message: Message) -> Result<(), Error> {
+    pub(super) fn at_server(&mut self, server: u8, message: Message) -> Result<(), AllocError> {
         match message.body {
             Body::Packet(packet) => self.packet_at(server, message.from, packet),
             Body::Stand { place, before } => match self.place_of(place) {
@@ -59,7 +58,10 @@ impl Stage {
                 ),
                 None => self.see(Event::Dropped),
             },
-            Body::Noted { place } => self.noted(message.from, place),
+            Body::Noted { place } => {
+                self.noted(message.from, place);
+                Ok(())
+            }
             _ => self.see(Event::Ignored),
         }
     }
@@ -70,7 +72,7 @@ impl Stage {
         message: Message,
         told: Result<Place, Fault>,
         answer: Body,
-    ) -> Result<(), Error> {
+    ) -> Result<(), AllocError> {
         match told {
             Ok(now) => {
                 self.put(now);
@@ -81,7 +83,7 @@ impl Stage {
         }
     }
 
-    fn packet_at(&mut self, server: u8, from: Machine, packet: Packet) -> Result<(), Error> {
+    fn packet_at(&mut self, server: u8, from: Machine, packet: Packet) -> Result<(), AllocError> {
         let Some(place) = self.place_of(packet.at) else {
             return self.see(Event::Dropped);
         };
@@ -112,7 +114,7 @@ impl Stage {
     }
 
     // A forgotten place that gets a packet from a balancer tells it of the place after.
-    fn hint(&mut self, server: u8, from: Machine, place: Place) -> Result<(), Error> {
+    fn hint(&mut self, server: u8, from: Machine, place: Place) -> Result<(), AllocError> {
         match (from, place.standing) {
             (Machine::Balancer(_), Standing::Forgotten { after }) => {
                 self.send(Machine::Server(server), from, Body::Door { link: after })
@@ -122,7 +124,7 @@ impl Stage {
     }
 
     // The oldest place forgets itself, if no session is open in it and it is not the newest.
-    pub(super) fn forget(&mut self) -> Result<(), Error> {
+    pub(super) fn forget(&mut self) -> Result<(), AllocError> {
         for place in self.places.as_slice() {
             let empty = self.sessions.none_at(place.link);
             if let Some(now) = place.forget(empty)
@@ -134,7 +136,7 @@ impl Stage {
         self.see(Event::NothingForgotten)
     }
 
-    fn forgets(&mut self, now: Place, after: Link) -> Result<(), Error> {
+    fn forgets(&mut self, now: Place, after: Link) -> Result<(), AllocError> {
         let place = now.link;
         let notice = Notice {
             place,
@@ -148,7 +150,7 @@ impl Stage {
         self.say_notice(notice)
     }
 
-    fn say_notice(&mut self, notice: Notice) -> Result<(), Error> {
+    fn say_notice(&mut self, notice: Notice) -> Result<(), AllocError> {
         let place = notice.place;
         let after = notice.after;
         let from = Machine::Server(place.server);
@@ -166,7 +168,7 @@ impl Stage {
     }
 
     // Somebody answered that it heard of a forgotten place.
-    fn noted(&mut self, from: Machine, place: Link) -> Result<(), Error> {
+    fn noted(&mut self, from: Machine, place: Link) {
         for notice in self.notices.iter_mut() {
             if notice.place.same(place) {
                 match from {
@@ -176,11 +178,10 @@ impl Stage {
                 }
             }
         }
-        Ok(())
     }
 
     // What the servers have no answer to.
-    pub(super) fn servers_say(&mut self) -> Result<(), Error> {
+    pub(super) fn servers_say(&mut self) -> Result<(), AllocError> {
         for i in 0..self.notices.len() {
             if let Some(notice) = self.notices.get(i).copied() {
                 self.say_notice(notice)?;
