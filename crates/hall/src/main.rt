@@ -90,21 +90,6 @@ fn answer(rt: &LibcRuntime, number: u64, error: Error) -> Result<(), AnyError> {
     }
 }
 
-// What a command does to the stage, and what is seen of it.
-fn obey(rt: &LibcRuntime, stage: &mut Stage, command: Command) -> Result<(), Error> {
-    match command {
-        Command::Reset {
-            servers,
-            balancers,
-            room,
-        } => {
-            *stage = Stage::new(rt.alloc(), servers, balancers, room)?;
-            Ok(())
-        }
-        command => stage.play(command),
-    }
-}
-
 fn play_line(rt: &LibcRuntime, stage: &mut Stage, number: u64, line: &str) -> Result<(), AnyError> {
     let command = match read_line(line) {
         Ok(Command::Nothing) => {
@@ -112,7 +97,8 @@ fn play_line(rt: &LibcRuntime, stage: &mut Stage, number: u64, line: &str) -> Re
             return Ok(());
         }
         Ok(Command::Title) => {
-            println!(rt, "== {line} ==")?;
+            let (_, text) = line.split_once("title").unwrap_or(("", ""));
+            println!(rt, "=={text} ==")?;
             return Ok(());
         }
         Ok(command) => command,
@@ -122,7 +108,7 @@ fn play_line(rt: &LibcRuntime, stage: &mut Stage, number: u64, line: &str) -> Re
         }
     };
     println!(rt, "> {line}")?;
-    if let Err(error) = obey(rt, stage, command) {
+    if let Err(error) = stage.play(command) {
         return answer(rt, number, error);
     }
     for event in stage.seen() {

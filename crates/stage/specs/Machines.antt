@@ -15,6 +15,7 @@ use Rattle.stage.specs.declared.message.Message.{Message}
 use Rattle.stage.specs.declared.session.Session.{Session}
 use Rattle.stage.specs.declared.stage.Notice.{Notice}
 use Rattle.stage.specs.declared.stage.Stage.{Stage}
+use Rattle.stage.specs.Opened.{opened}
 use Rattle.stage.specs.Posts.{onWay}
 
 pub record Machines : Type 0 where
@@ -30,7 +31,7 @@ abbrev pub machines : Stage → Machines
 machines s =
     record {
       stand-there = vec-items (s .places);
-      open-there = vec-items (s .sessions .«open»);
+      open-there = opened (s .sessions);
       forgotten-there = vec-items (s .notices);
       known-there = vec-items (s .known);
       still-told = vec-items (s .telling);

@@ -26,6 +26,14 @@ impl Post {
         }
     }
 
+    // Nothing is on its way, and numbers begin anew.
+    pub fn clear(&mut self)
+        ensures { λ _. ⌜ onWay (now (self .exit)) ≡ [] ⌝ }
+    {
+        self.on_way.clear();
+        self.last = 0;
+    }
+
     pub fn on_way(&self) -> &[Message]
         ensures { λ r. ⌜ now r ≡ onWay (now (self .entry)) ⌝ }
     {

@@ -55,35 +55,56 @@ pub struct Stage {
 }
 
 impl Stage {
-    // Place 1 stands at server 0, and every balancer knows it.
     pub fn new(heap: Global, servers: u8, balancers: u8, room: u32) -> Result<Stage, Error> {
-        if servers == 0 {
-            return Err(Error::Of(Fault::NoServer));
-        }
-        let first = Link {
-            place: 1,
-            server: 0,
-        };
-        let mut places = Vec::new(heap);
-        places.push(Place {
-            link: first,
-            standing: Standing::Stands {
-                before: None,
-                after: None,
-            },
-        })?;
-        let count = balancers as usize;
-        Ok(Stage {
+        let mut stage = Stage {
             servers,
-            places,
+            places: Vec::new(heap),
             sessions: Sessions::new(heap, room),
             notices: Vec::new(heap),
-            known: vec![in heap; first; count]?,
-            telling: vec![in heap; None; count]?,
+            known: Vec::new(heap),
+            telling: Vec::new(heap),
             chain: Chain::new(0),
             post: Post::new(heap),
             seen: Vec::new(heap),
-        })
+        };
+        stage.reset(servers, balancers, room)?;
+        Ok(stage)
+    }
+
+    // All begins anew: place 1 stands at server 0, and every balancer knows it.
+    fn reset(&mut self, servers: u8, balancers: u8, room: u32) -> Result<(), Error>
+        ensures { λ r. ⌜ FaultChangesNothing r (machines (now (self .entry))) (machines (now (self .exit))) ⌝ }
+    {
+        if servers == 0 {
+            return Err(Error::Of(Fault::NoServer));
+        }
+        self.servers = servers;
+        self.chain = Chain::new(0);
+        self.places.clear();
+        self.sessions.reset(room);
+        self.notices.clear();
+        self.post.clear();
+        let first = self.chain.newest();
+        self.places
+            .push(Place {
+                link: first,
+                standing: Standing::Stands {
+                    before: None,
+                    after: None,
+                },
+            })?;
+        self.add_balancers(balancers, first)?;
+        Ok(())
+    }
+
+    fn add_balancers(&mut self, balancers: u8, first: Link) -> Result<(), AllocError> {
+        self.known.clear();
+        self.telling.clear();
+        for _ in 0..balancers {
+            self.known.push(first)?;
+            self.telling.push(None)?;
+        }
+        Ok(())
     }
 
     pub fn seen(&self) -> &[Event] {
@@ -130,7 +151,12 @@ impl Stage {
             Command::Repeat { number } => self.repeat(number)?,
             Command::Next => self.next()?,
             Command::All => self.all()?,
-            Command::Nothing | Command::Title | Command::Show | Command::Reset { .. } => {}
+            Command::Reset {
+                servers,
+                balancers,
+                room,
+            } => self.reset(servers, balancers, room)?,
+            Command::Nothing | Command::Title | Command::Show => {}
         }
         Ok(())
     }
