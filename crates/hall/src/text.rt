@@ -18,8 +18,7 @@ pub struct LinkText(pub Link);
 
 pub impl fmt::Display for LinkText as LinkTextDisplay {
     fn fmt<W: fmt::Write>(&self, f: &mut fmt::Formatter<W>) -> fmt::Result {
-        let Link { place, server } = self.0;
-        write!(f, "place {place} of house {server}")
+        write!(f, "place {} of house {}", self.0.place, self.0.server)
     }
 }
 
@@ -76,19 +75,19 @@ struct PacketText(Packet);
 
 impl fmt::Display for PacketText as PacketTextDisplay {
     fn fmt<W: fmt::Write>(&self, f: &mut fmt::Formatter<W>) -> fmt::Result {
-        let Packet {
-            flow,
-            opens,
-            at,
-            way,
-        } = self.0;
-        write!(f, "packet {} to place {}, ", FlowText(flow), at.place)?;
-        match way {
+        let packet = self.0;
+        write!(
+            f,
+            "packet {} to place {}, ",
+            FlowText(packet.flow),
+            packet.at.place
+        )?;
+        match packet.way {
             Way::Up => f.write_str("up")?,
             Way::Down(by) => write!(f, "down for place {}", by.place)?,
             Way::Asked(by) => write!(f, "asked by place {}", by.place)?,
         }
-        if opens {
+        if packet.opens {
             f.write_str(", may open")
         } else {
             Ok(())
@@ -159,15 +158,10 @@ pub impl fmt::Display for MessageText as MessageTextDisplay {
     }
 }
 
-#[derive(Drop)]
-struct RefusalText(Refusal);
-
-impl fmt::Display for RefusalText as RefusalTextDisplay {
-    fn fmt<W: fmt::Write>(&self, f: &mut fmt::Formatter<W>) -> fmt::Result {
-        match self.0 {
-            Refusal::Nobody => f.write_str("nobody has the table"),
-            Refusal::For(fault) => f.write_str(fault.text()),
-        }
+fn refusal_text(refusal: Refusal) -> &'static str {
+    match refusal {
+        Refusal::Nobody => "nobody has the table",
+        Refusal::For(fault) => fault.text(),
     }
 }
 
@@ -207,7 +201,7 @@ pub impl fmt::Display for EventText as EventTextDisplay {
                 refusal.number(),
                 FlowText(flow),
                 LinkText(at),
-                RefusalText(refusal)
+                refusal_text(refusal)
             ),
             Event::Dropped => f.write_str("dropped, as if lost"),
             Event::Contradicted(fault) => write!(f, "refused {}: {}", fault.number(), fault.text()),
