@@ -1,3 +1,5 @@
 pub mod Ways
 pub mod Places
 pub mod Controllers
+pub mod Falls
+pub mod Kept
