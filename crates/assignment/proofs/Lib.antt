@@ -1,0 +1,5 @@
+pub mod Servers
+pub mod Steps
+pub mod Sums
+pub mod Changes
+pub mod Best

@@ -1,0 +1,2 @@
+pub mod Even
+pub mod Rule
