@@ -9,11 +9,13 @@ use Prim.Native.Nat.{ℕ, zero, suc, _+_, _-_, _*_, _/_, _%_, _<_, _≤_, min}
 use lib.Dec.{eqb, leb, ltb}
 use lib.ListN.{length, getD}
 use Rattle.std.proofs.shelf.Bits.{mod-below}
-use Rattle.std.proofs.shelf.Lists.{getD-map, length-map}
+use Rattle.std.proofs.shelf.Elements.{all-getD}
+use Rattle.std.proofs.shelf.Lists.{getD-map, getD-past, length-map}
 use Rattle.std.proofs.shelf.Tests.{lt-ltb, le-ltb, ltb-true, ltb-false, ne-eqb, eq-eqb, cases-eq, cases-lt, cases-bool, and-parts, and-cases, leb-true, leb-false, both-ways}
 use Rattle.std.specs.shelf.Lists.{All}
 use Rattle.assignment.specs.Even.{count, place, Listed, Even, moved, Fewest}
-use Rattle.assignment.specs.Rule.{rises, sumOver, ahead, rank, extra, quotas, kept, keptQuota, dealt, rebalanced}
+use Rattle.assignment.specs.Rule.{rises, sumOver, ahead, rank, extra, kept, keptQuota, sharedBy, rebalanced}
+use Rattle.assignment.specs.Laws.{Least-moves, Any-quotas}
 use Rattle.assignment.proofs.Servers.{one, one-le, place-at, has-place}
 use Rattle.assignment.proofs.Sums.{sum-eq, sum-le, sum-lt, sum-add, sum-const, sum-once, ahead-more, rank-strict, ranks}
 use Rattle.assignment.proofs.Changes.{total, total-map, sum-places, Fit, keep-count, keep-most, keep-total, kept-length, left-length, kept-served, deal-count, deal-served, moved-dealt}
@@ -35,36 +37,31 @@ quota-high c ss n s = omega (arith, one-le (ltb (rank c ss s) (n % length ss)))
 abbrev countIn : List ℕ → ℕ → ℕ
 countIn xs s = count s xs
 
-quotas-at : (ss xs : List ℕ) (i : ℕ) → i < length ss → getD (quotas ss xs) i 0 ≡ extra (countIn xs) ss (length xs) (getD ss i 0)
-quotas-at ss xs i h = getD-map (extra (countIn xs) ss (length xs)) ss i 0 0 h
-
-quotas-length : (ss xs : List ℕ) → length (quotas ss xs) ≡ length ss
-quotas-length ss xs = length-map ss (extra (countIn xs) ss (length xs))
-
-quotas-total : (ss xs : List ℕ) → rises ss ≡ true → 0 < length ss → total (quotas ss xs) ≡ length xs
-quotas-total ss xs r h = total-map (extra (countIn xs) ss (length xs)) ss ∙ quota-sum (countIn xs) ss (length xs) r h
-
 -- as many quotas are left as buckets without a server
-level-left : (ss xs : List ℕ) → Fit ss → 0 < length ss → total (keptQuota ss xs (quotas ss xs)) ≡ count 65535 (kept ss xs (quotas ss xs))
-level-left ss xs f h = omega (arith, keep-total ss xs (quotas ss xs) f (quotas-length ss xs), quotas-total ss xs (f .rise) h)
+level-left : (f : ℕ → ℕ) (ss xs : List ℕ) → Fit ss → sumOver f ss ≡ length xs → total (keptQuota ss xs (map f ss)) ≡ count 65535 (kept ss xs (map f ss))
+level-left f ss xs fit e = omega (arith, keep-total ss xs (map f ss) fit (length-map ss f), total-map f ss)
 
 -- each server has its quota afterwards
-pub filled : (ss xs : List ℕ) (i : ℕ) → Fit ss → i < length ss → count (getD ss i 0) (rebalanced ss xs) ≡ extra (countIn xs) ss (length xs) (getD ss i 0)
-filled ss xs i f h =
-    let q = quotas ss xs in
-    let l = quotas-length ss xs in
-    omega (arith, deal-count ss i (kept ss xs q) (keptQuota ss xs q) f h (left-length ss xs q ∙ l) (level-left ss xs f (omega arith)), keep-count ss i xs q f h l, quotas-at ss xs i h)
+filled-at : (f : ℕ → ℕ) (ss xs : List ℕ) (i : ℕ) → Fit ss → sumOver f ss ≡ length xs → i < length ss → count (getD ss i 0) (sharedBy (map f ss) ss xs) ≡ f (getD ss i 0)
+filled-at f ss xs i fit e h =
+    let q = map f ss in
+    let l = length-map ss f in
+    omega (arith, deal-count ss i (kept ss xs q) (keptQuota ss xs q) fit h (left-length ss xs q ∙ l) (level-left f ss xs fit e), keep-count ss i xs q fit h l, getD-map f ss i 0 0 h)
+
+filled : (f : ℕ → ℕ) (ss xs : List ℕ) (s : ℕ) → Fit ss → sumOver f ss ≡ length xs → Listed ss s → count s (sharedBy (map f ss) ss xs) ≡ f s
+filled f ss xs s fit e in′ =
+    let P : ℕ → Type 0 = λ t. count t (sharedBy (map f ss) ss xs) ≡ f t in
+    subst P (has-place ss s in′) (filled-at f ss xs (place ss s) fit e in′)
 
 pub even : (ss xs : List ℕ) → Fit ss → 0 < length ss → Even ss (rebalanced ss xs)
-even ss xs f h =
-    let q = quotas ss xs in
-    let l = quotas-length ss xs in
-    let at : (s : ℕ) → Listed ss s → count s (rebalanced ss xs) ≡ extra (countIn xs) ss (length xs) s = λ s in′.
-    let P : ℕ → Type 0 = λ t. count t (rebalanced ss xs) ≡ extra (countIn xs) ss (length xs) t in
-    subst P (has-place ss s in′) (filled ss xs (place ss s) f in′) in
+even ss xs fit h =
+    let f : ℕ → ℕ = extra (countIn xs) ss (length xs) in
+    let q = map f ss in
+    let l = length-map ss f in
+    let e = quota-sum (countIn xs) ss (length xs) (fit .rise) h in
     record {
-      served = deal-served ss (kept ss xs q) (keptQuota ss xs q) f (left-length ss xs q ∙ l) (level-left ss xs f h) (kept-served ss xs q l);
-      level = λ s t a b. omega (arith, at s a, at t b, quota-high (countIn xs) ss (length xs) s, quota-low (countIn xs) ss (length xs) t);
+      served = deal-served ss (kept ss xs q) (keptQuota ss xs q) fit (left-length ss xs q ∙ l) (level-left f ss xs fit e) (kept-served ss xs q l);
+      level = λ s t a b. omega (arith, filled f ss xs s fit e a, filled f ss xs t fit e b, quota-high (countIn xs) ss (length xs) s, quota-low (countIn xs) ss (length xs) t);
     }
 
 -- BOUND: where two assignments agree on s, s has that bucket in both
@@ -89,7 +86,7 @@ both-le s [] zs = omega arith
 both-le s (x ∷ xs) [] = omega arith
 both-le s (x ∷ xs) (z ∷ zs) = omega (arith, one-and (eqb s x) (eqb s z), both-le s xs zs)
 
--- any assignment to listed servers changes at least the buckets beyond the smaller of old and new counts
+-- a bucket stays, or it changes hands
 agree : (ss xs zs : List ℕ) → rises ss ≡ true → length zs ≡ length xs → All (Listed ss) zs → length xs ≤ moved xs zs + sumOver (λ s. both s xs zs) ss
 unfolding both
 agree ss [] zs r l a = omega arith
@@ -197,17 +194,47 @@ best c d K ss n r h e flat keeps =
           omega (arith, sum-add part over ss, sum-add part more ss, sum-add (λ _. p) over ss, sum-const p ss, ranks c 0 rest ss r, mod-below n m h, div-add-mod n m)
     ]
 
+-- any assignment to listed servers changes at least the buckets beyond the smaller of old and new counts
+bound : (ss xs zs : List ℕ) → rises ss ≡ true → length zs ≡ length xs → All (Listed ss) zs → length xs ≤ moved xs zs + sumOver (λ s. min (count s xs) (count s zs)) ss
+bound ss xs zs r l a =
+    omega (arith, agree ss xs zs r l a, sum-le (λ s. both s xs zs) (λ s. min (count s xs) (count s zs)) ss (λ i b. both-le (getD ss i 0) xs zs))
+
+-- what is kept is counted server by server
+kept-sum : (f : ℕ → ℕ) (ss xs : List ℕ) → Fit ss → moved xs (sharedBy (map f ss) ss xs) + sumOver (λ s. count s (kept ss xs (map f ss))) ss ≤ length xs
+kept-sum f ss xs fit =
+    let q = map f ss in
+    let l = length-map ss f in
+    let K : ℕ → ℕ = λ s. count s (kept ss xs q) in
+    let all = sum-places K ss (keptQuota ss xs q) q (left-length ss xs q ∙ l) l (λ i b. keep-count ss i xs q fit b l) in
+    omega (arith, moved-dealt ss xs q (keptQuota ss xs q) fit l, keep-total ss xs q fit l)
+
+keeps-most : (f : ℕ → ℕ) (ss xs : List ℕ) (i : ℕ) → Fit ss → i < length ss → min (count (getD ss i 0) xs) (f (getD ss i 0)) ≤ count (getD ss i 0) (kept ss xs (map f ss))
+keeps-most f ss xs i fit h = omega (arith, keep-most ss i xs (map f ss) fit h (length-map ss f), getD-map f ss i 0 0 h)
+
+-- and keeping the lowest attains that, for any quotas
+attained : (f : ℕ → ℕ) (ss xs : List ℕ) → Fit ss → moved xs (sharedBy (map f ss) ss xs) + sumOver (λ s. min (count s xs) (f s)) ss ≤ length xs
+attained f ss xs fit =
+    omega (arith, kept-sum f ss xs fit, sum-le (λ s. min (count s xs) (f s)) (λ s. count s (kept ss xs (map f ss))) ss (λ i b. keeps-most f ss xs i fit b))
+
+fit-from : (ss : List ℕ) → rises ss ≡ true → All (λ s. s < 256) ss → Fit ss
+fit-from ss r a = record { rise = r; real = λ i. elim (cases-lt i (length ss)) [ inl h ↦ all-getD (λ s. s < 256) ss i 0 h a | inr n ↦ omega (arith, getD-past ss i 0 n) ] }
+
+pub least-moves : Least-moves
+least-moves ss xs zs r l a = bound ss xs zs r l a
+
+pub any-quotas : Any-quotas
+any-quotas f ss xs r a =
+    let fit = fit-from ss r a in
+    (attained f ss xs fit, λ e s in′. filled f ss xs s fit e in′)
+
 pub fewest : (ss xs : List ℕ) → Fit ss → 0 < length ss → Fewest ss xs (rebalanced ss xs)
-fewest ss xs f h zs l ev =
-    let q = quotas ss xs in
-    let long = quotas-length ss xs in
+fewest ss xs fit h zs l ev =
     let c = countIn xs in
     let d = countIn zs in
-    let K : ℕ → ℕ = λ s. count s (kept ss xs q) in
-    let all : sumOver d ss ≡ length xs = counts-sum ss zs (f .rise) (ev .served) ∙ l in
-    let listed : (i : ℕ) → i < length ss → Listed ss (getD ss i 0) = λ i b. (let e = place-at 0 ss i (f .rise) b in omega arith) in
-    let top = best c d K ss (length xs) (f .rise) h all (λ k j a b. ev .level (getD ss k 0) (getD ss j 0) (listed k a) (listed j b)) (λ i b.
-    omega (arith, keep-most ss i xs q f b long, quotas-at ss xs i b)) in
-    let common = sum-le (λ s. both s xs zs) (λ s. min (c s) (d s)) ss (λ i b. both-le (getD ss i 0) xs zs) in
-    let kept-sum = sum-places K ss (keptQuota ss xs q) q (left-length ss xs q ∙ long) long (λ i b. keep-count ss i xs q f b long) in
-    omega (arith, agree ss xs zs (f .rise) l (ev .served), moved-dealt ss xs q (keptQuota ss xs q) f long, keep-total ss xs q f long, top, common, kept-sum)
+    let f : ℕ → ℕ = extra c ss (length xs) in
+    let all : sumOver d ss ≡ length xs = counts-sum ss zs (fit .rise) (ev .served) ∙ l in
+    let listed : (i : ℕ) → i < length ss → Listed ss (getD ss i 0) = λ i b. (let e = place-at 0 ss i (fit .rise) b in omega arith) in
+    let top = best c d (λ s. count s (kept ss xs (map f ss))) ss (length xs) (fit .rise) h all
+    (λ k j a b. ev .level (getD ss k 0) (getD ss j 0) (listed k a) (listed j b))
+    (λ i b. keeps-most f ss xs i fit b) in
+    omega (arith, bound ss xs zs (fit .rise) l (ev .served), kept-sum f ss xs fit, top)

@@ -3,3 +3,5 @@ pub mod Steps
 pub mod Sums
 pub mod Changes
 pub mod Best
+pub mod Handovers
+pub mod Worked

@@ -66,9 +66,13 @@ dealt servers (s ∷ ss) q = cond (eqb s 65535)
     (cond (ltb (lowest q) (length q)) (getD servers (lowest q) 0 ∷ dealt servers ss (spent q (lowest q))) (s ∷ ss))
     (s ∷ dealt servers ss q)
 
--- what is kept, and then what is dealt
+-- by any quotas: what is kept, and then what is dealt
+abbrev pub sharedBy : List ℕ → List ℕ → List ℕ → List ℕ
+sharedBy q servers xs = dealt servers (kept servers xs q) (keptQuota servers xs q)
+
+-- THE RULE
 abbrev pub rebalanced : List ℕ → List ℕ → List ℕ
-rebalanced servers xs = dealt servers (kept servers xs (quotas servers xs)) (keptQuota servers xs (quotas servers xs))
+rebalanced servers xs = sharedBy (quotas servers xs) servers xs
 
 -- as many buckets as there may be: from 16 to 65,536, and a number with a single bit, a power of two
 abbrev pub isBuckets : ℕ → Bool

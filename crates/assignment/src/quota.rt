@@ -47,7 +47,7 @@ fn ahead_of(counts: &[usize], servers: &[u8], server: u8) -> usize
 }
 
 // The quota of each server, in the list's order: an even part, and one more for those with most buckets as far as the rest goes.
-pub fn set_quotas(quota: &mut [usize], counts: &[usize], servers: &[u8], buckets: usize)
+pub(crate) fn set_quotas(quota: &mut [usize], counts: &[usize], servers: &[u8], buckets: usize)
     requires { ⌜ length (now counts) ≡ 256 ⌝ ∗ ⌜ length (now quota) ≡ length (now servers) ⌝ ∗ ⌜ 0 < length (now servers) ⌝ ∗ ⌜ buckets ≤ 65536 ⌝ }
     ensures { λ _. ⌜ now (quota .exit) ≡ map (extra (λ s. getD (now (counts .entry)) s 0) (now (servers .entry)) buckets) (now (servers .entry)) ⌝ }
 {

@@ -1,0 +1,6 @@
+-- The worked cases, computed. Assumes nothing.
+use mathlib.Core.Path.{refl}
+use Rattle.assignment.specs.Laws.{Worked-cases}
+
+pub worked-cases : Worked-cases
+worked-cases = ((refl, refl, refl), ((refl, refl, refl), ((refl, refl, refl), tt)))
