@@ -75,6 +75,24 @@ rises-length n (s ∷ ss) r low l =
     let b : s < 256 = low 0 in
     omega (arith, rises-length (suc s) ss (p .1) (λ i. low (suc i)) (omega arith))
 
+-- where a server can stand: at most at its number, and at least there less the numbers that are left out
+pub place-most : (n : ℕ) (ss : List ℕ) (i : ℕ) → risesFrom n ss ≡ true → i < length ss → n + i ≤ getD ss i 0
+place-most n [] i r h = absurd (omega arith)
+place-most n (s ∷ ss) zero r h = omega (arith, leb-true n s (and-parts (leb n s) (risesFrom (suc s) ss) r .0))
+place-most n (s ∷ ss) (suc i) r h =
+    let p = and-parts (leb n s) (risesFrom (suc s) ss) r in
+    omega (arith, leb-true n s (p .0), place-most (suc s) ss i (p .1) (omega arith))
+
+pub place-least : (n : ℕ) (ss : List ℕ) (i : ℕ) → risesFrom n ss ≡ true → ((k : ℕ) → getD ss k 0 < 256) → i < length ss → getD ss i 0 + length ss ≤ i + 256
+place-least n [] i r low h = absurd (omega arith)
+place-least n (s ∷ ss) zero r low h =
+    let p = and-parts (leb n s) (risesFrom (suc s) ss) r in
+    let b : s < 256 = low 0 in
+    omega (arith, rises-length (suc s) ss (p .1) (λ k. low (suc k)) (omega arith))
+place-least n (s ∷ ss) (suc i) r low h =
+    let p = and-parts (leb n s) (risesFrom (suc s) ss) r in
+    omega (arith, place-least (suc s) ss i (p .1) (λ k. low (suc k)) (omega arith))
+
 -- the count of the buckets so far, with one more
 pub counted : (s x : ℕ) (xs cs : List ℕ) (b : ℕ) → b < length xs → x ≡ getD xs b 0 → x < length cs
     → getD cs s 0 + count s (drop b xs) ≡ count s xs → getD (set cs x (getD cs x 0 + 1)) s 0 + count s (drop (b + 1) xs) ≡ count s xs

@@ -7,6 +7,7 @@ ghost use Rattle.std.specs.Vec.{made};
 ghost use Rattle.assignment.specs.Even.{Even, Fewest};
 ghost use Rattle.assignment.specs.Rule.{rises, quotas, kept, keptQuota, dealt, rebalanced, answered};
 use crate::counts::NONE;
+use crate::counts::SERVERS;
 use crate::counts::counts;
 use crate::quota::rises;
 use crate::quota::set_quotas;
@@ -23,8 +24,12 @@ fn keep(assignment: &mut [u16], servers: &[u8], quota: &mut [usize])
     ensures left { λ _. ⌜ now (quota .exit) ≡ keptQuota (now (servers .entry)) (now (assignment .entry)) (now (quota .entry)) ⌝ }
 {
     'buckets: for b in 0..assignment.len() {
-        for i in 0..servers.len() {
-            if u16::from(servers[i]) == assignment[b] && quota[i] > 0 {
+        // The list rises: the place of a server is at most its number, and at least its number less those left out.
+        let server = assignment[b] as usize;
+        let first = (server + servers.len()).saturating_sub(SERVERS);
+        let end = servers.len().min(server + 1);
+        for i in first..end {
+            if servers[i] as usize == server && quota[i] > 0 {
                 quota[i] -= 1;
                 continue 'buckets;
             }

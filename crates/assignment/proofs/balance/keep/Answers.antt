@@ -2,17 +2,31 @@
 use mathlib.Core.Path.{_≡_, refl, sym, _∙_, ap}
 use native.Mathlib.Omega.{arith}
 use Prim.Native.Nat.{ℕ, _<_}
-use lib.ListN.{getD}
+use lib.ListN.{getD, length}
+use mathlib.Core.Logic.{inl, inr}
+use Rattle.std.proofs.shelf.Lists.{getD-past}
+use Rattle.std.proofs.shelf.Tests.{cases-lt}
+use Rattle.assignment.proofs.Servers.{place-most, place-least}
 use Rattle.assignment.specs.Rule.{kept, keptQuota}
 use Rattle.assignment.proofs.Steps.{Whole, whole-end, keep-stays, keep-none}
 use Rattle.assignment.proofs.balance.keep.Needs as need
+
+pub loop-i-holds : need.loop-i-holds
+loop-i-holds c =
+    let ss = c .args .servers .now in (
+      refl,
+      λ k h e. elim (cases-lt k (length ss)) [
+        | inl l ↦ absurd (omega (arith, place-least 0 ss k (c .pre .1) (λ i. omega (arith, c .typed .servers i)) l))
+        | inr n ↦ getD-past (c .buckets .quota) k 0 (omega arith)
+      ],
+    )
 
 pub buckets-again-then-quota-i-gt0 : need.buckets-again-then-quota-i-gt0
 buckets-again-then-quota-i-gt0 c =
     let ss = c .args .servers .now in
     rw (c .loop-i .inv .0)
     (keep-stays ss (c .buckets .assignment) (c .buckets .quota) (c .args .assignment .now) (c .args .quota .now) (c .buckets .b) (c .loop-i .i) (c .pre .1) (omega arith) (omega arith)
-    (sym (c .from .ensures) ∙ c .if-from-assignment .taken)
+    (c .if-servers-i .taken)
     (rw (c .loop-i .inv .0) at (c .if-quota-i-gt0 .taken))
     (c .buckets .inv))
 
@@ -21,7 +35,10 @@ buckets-again c =
     let ss = c .args .servers .now in
     rw (c .loop-i .inv .0)
     (keep-none ss (c .buckets .assignment) (c .buckets .quota) (c .args .assignment .now) (c .args .quota .now) (c .buckets .b) (omega arith) (omega arith)
-    (λ k h e. ap (λ q. getD q k 0) (sym (c .loop-i .inv .0)) ∙ c .loop-i .inv .1 k (omega arith) e)
+    (λ k h e. ap (λ q. getD q k 0) (sym (c .loop-i .inv .0)) ∙ elim (cases-lt k (c .loop-i .i)) [
+      | inl l ↦ c .loop-i .inv .1 k l e
+      | inr n ↦ absurd (omega (arith, place-most 0 ss k (c .pre .1) h))
+    ])
     (c .buckets .inv))
 
 pub returns : need.returns
