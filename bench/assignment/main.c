@@ -47,13 +47,13 @@ int main(void) {
     static uint16_t none[65536], all[65536], less[65536], again[65536], swapped[65536], out[65536];
     const size_t sizes[] = {16, 4096, 65536}, servers[] = {16, 128, 256};
     memset(none, 0xff, sizeof none);
-    for (size_t b = 0; b < 65536; b++) swapped[b] = 255; /* all at the highest server */
-    printf("%8s %8s %14s %14s %14s %14s   (ms; buckets changed)\n", "buckets", "servers", "from nothing", "one removed", "one added", "all at 255");
+    printf("%8s %8s %14s %14s %14s %14s   (ms; buckets changed)\n", "buckets", "servers", "from nothing", "one removed", "one added", "all at last");
     for (size_t i = 0; i < 3; i++)
         for (size_t j = 0; j < 3; j++) {
             size_t n = sizes[i], h = servers[j];
             uint8_t list[256], rest[256];
-            for (size_t s = 0; s < h; s++) list[s] = (uint8_t)(256 - h + s); /* the numbers end at 255 */
+            for (size_t s = 0; s < h; s++) list[s] = (uint8_t)s;
+            for (size_t b = 0; b < n; b++) swapped[b] = (uint16_t)(h - 1); /* all at the last server */
             for (size_t s = 0; s + 1 < h; s++) rest[s] = list[s < h / 2 ? s : s + 1];
             double a = timed(none, n, list, h, all);
             double r = timed(all, n, rest, h - 1, less);

@@ -24,11 +24,11 @@ fn keep(assignment: &mut [u16], servers: &[u8], quota: &mut [usize])
     ensures left { λ _. ⌜ now (quota .exit) ≡ keptQuota (now (servers .entry)) (now (assignment .entry)) (now (quota .entry)) ⌝ }
 {
     'buckets: for b in 0..assignment.len() {
-        // The list rises: the place of a server is at most its number, and at least its number less those left out.
+        // The list rises: a server stands at its number, or before it by as many as are left out.
         let server = assignment[b] as usize;
         let first = (server + servers.len()).saturating_sub(SERVERS);
         let end = servers.len().min(server + 1);
-        for i in first..end {
+        for i in (first..end).rev() {
             if servers[i] as usize == server && quota[i] > 0 {
                 quota[i] -= 1;
                 continue 'buckets;

@@ -1,5 +1,5 @@
 use mathlib.Core.Path.{_≡_}
-use Prim.Native.Nat.{ℕ, _<_}
+use Prim.Native.Nat.{ℕ, _≤_}
 use lib.ListN.{getD}
 use Rattle.assignment.specs.Rule.{kept, keptQuota}
 use Rattle.assignment.proofs.Steps.{Whole}
@@ -12,4 +12,4 @@ Inv-buckets l = Whole (kept (l .servers)) (keptQuota (l .servers)) (l .b) (l .as
 -- nothing was written yet, and none of the servers so far has the bucket and quota left
 abbrev pub Inv-loop-i : given.InvT-loop-i
 Inv-loop-i l =
-    (l .quota ≡ l .entry .quota) × ((k : ℕ) → k < l .i → getD (l .servers) k 0 ≡ getD (l .assignment) (l .b) 0 → getD (l .quota) k 0 ≡ 0)
+    (l .quota ≡ l .entry .quota) × ((k : ℕ) → l .i ≤ k → getD (l .servers) k 0 ≡ getD (l .assignment) (l .b) 0 → getD (l .quota) k 0 ≡ 0)
