@@ -1,4 +1,4 @@
-/* The time of one call of rebalance: counts of buckets and servers, from nothing, one server removed, one added, and the worst order. */
+/* The time of one call of rebalance: counts of buckets and servers, from nothing, one server removed, one added, and all at one server. */
 #include <stdint.h>
 #include <stdio.h>
 #include <stdlib.h>
@@ -45,15 +45,15 @@ static size_t differ(const uint16_t *a, const uint16_t *b, size_t n) {
 
 int main(void) {
     static uint16_t none[65536], all[65536], less[65536], again[65536], swapped[65536], out[65536];
-    const size_t sizes[] = {16, 4096, 65536}, servers[] = {16, 128, 256};
+    const size_t sizes[] = {16, 4096, 65536}, servers[] = {16, 128, 256}, step[] = {1, 2, 1};
     memset(none, 0xff, sizeof none);
-    printf("%8s %8s %14s %14s %14s %14s   (ms; buckets changed)\n", "buckets", "servers", "from nothing", "one removed", "one added", "all at last");
+    printf("%8s %8s %14s %14s %14s %14s   (ms; buckets changed)\n", "buckets", "servers", "from nothing", "one removed", "one added", "all at one");
     for (size_t i = 0; i < 3; i++)
         for (size_t j = 0; j < 3; j++) {
             size_t n = sizes[i], h = servers[j];
             uint8_t list[256], rest[256];
-            for (size_t s = 0; s < h; s++) list[s] = (uint8_t)s;
-            for (size_t b = 0; b < n; b++) swapped[b] = (uint16_t)(h - 1); /* all at the last server */
+            for (size_t s = 0; s < h; s++) list[s] = (uint8_t)(s * step[j]); /* 128: every other number */
+            for (size_t b = 0; b < n; b++) swapped[b] = list[h / 2]; /* all at one server */
             for (size_t s = 0; s + 1 < h; s++) rest[s] = list[s < h / 2 ? s : s + 1];
             double a = timed(none, n, list, h, all);
             double r = timed(all, n, rest, h - 1, less);

@@ -24,7 +24,7 @@ fn keep(assignment: &mut [u16], servers: &[u8], quota: &mut [usize])
     ensures left { λ _. ⌜ now (quota .exit) ≡ keptQuota (now (servers .entry)) (now (assignment .entry)) (now (quota .entry)) ⌝ }
 {
     'buckets: for b in 0..assignment.len() {
-        // The list rises: a server stands at its number, or before it by as many as are left out.
+        // The list rises, so the place of a server is its number less the numbers below it that are not listed.
         let server = assignment[b] as usize;
         let first = (server + servers.len()).saturating_sub(SERVERS);
         let end = servers.len().min(server + 1);
@@ -50,7 +50,7 @@ fn deal(assignment: &mut [u16], servers: &[u8], quota: &mut [usize])
                 if quota[i] == 0 {
                     continue 'servers;
                 }
-                quota[i] -= 1;
+                quota[i] -= 1; // down to nothing
                 assignment[b] = u16::from(servers[i]);
             }
             b += 1;

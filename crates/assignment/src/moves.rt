@@ -17,7 +17,7 @@ pub struct Move {
 const MOST: usize = 65536;
 
 // The server in a bucket's entry, if it has one.
-pub fn server_of(entry: u16) -> Option<u8>
+fn server_of(entry: u16) -> Option<u8>
     ensures { λ r. ⌜ r ≡ serverOf entry ⌝ }
 {
     if entry < 256 { Some(entry as u8) } else { None }
