@@ -1,8 +1,9 @@
 #!/usr/bin/env bash
-# Times one call of assignment::balance::rebalance from C, outside of the gate: a scratch repository with a crate that exports it.
+# Times one call of assignment::balance::rebalance from C, outside of the gate: in a scratch repository, with a crate that exports it.
+# usage: run.sh [FOLDER]   the scratch repository; a new temporary one if none is named, since stray crates in this repository fail the gate
 set -eu
 root=$(cd "$(dirname "$0")/../.." && pwd)
-out=${1:-$root/bench/target/assignment}
+out=${1:-$(mktemp -d)}
 mkdir -p "$out/crates/assignment_c/src"
 for crate in fault assignment; do
     mkdir -p "$out/crates/$crate"

@@ -14,23 +14,23 @@ use Rattle.std.proofs.shelf.Lists.{getD-map, getD-past, length-map}
 use Rattle.std.proofs.shelf.Tests.{lt-ltb, le-ltb, ltb-true, ltb-false, ne-eqb, eq-eqb, cases-eq, cases-lt, cases-bool, and-parts, and-cases, leb-true, leb-false, both-ways}
 use Rattle.std.specs.shelf.Lists.{All}
 use Rattle.assignment.specs.Even.{count, place, Listed, Even, moved, Fewest}
-use Rattle.assignment.specs.Rule.{rises, sumOver, ahead, rank, extra, kept, keptQuota, sharedBy, rebalanced}
+use Rattle.assignment.specs.Rule.{rises, sumOver, ahead, rank, quotaOf, kept, keptQuota, sharedBy, rebalanced}
 use Rattle.assignment.specs.Laws.{Least-moves, Any-quotas}
 use Rattle.assignment.proofs.Servers.{one, one-le, place-at, has-place}
 use Rattle.assignment.proofs.Sums.{sum-eq, sum-le, sum-lt, sum-add, sum-const, sum-once, ahead-more, rank-strict, ranks}
 use Rattle.assignment.proofs.Changes.{total, total-map, sum-places, Fit, keep-count, keep-most, keep-total, kept-length, left-length, kept-served, deal-count, deal-served, moved-dealt}
 
 -- QUOTAS: as many as there are buckets, and each one part or one more
-pub quota-sum : (c : ℕ → ℕ) (ss : List ℕ) (n : ℕ) → rises ss ≡ true → 0 < length ss → sumOver (extra c ss n) ss ≡ n
+pub quota-sum : (c : ℕ → ℕ) (ss : List ℕ) (n : ℕ) → rises ss ≡ true → 0 < length ss → sumOver (quotaOf c ss n) ss ≡ n
 quota-sum c ss n r h =
     let k = length ss in
     let more : ℕ → ℕ = λ s. one (ltb (rank c ss s) (n % k)) in
     omega (arith, sum-add (λ _. n / k) more ss, sum-const (n / k) ss, ranks c 0 (n % k) ss r, mod-below n k h, div-add-mod n k)
 
-quota-low : (c : ℕ → ℕ) (ss : List ℕ) (n s : ℕ) → n / length ss ≤ extra c ss n s
+quota-low : (c : ℕ → ℕ) (ss : List ℕ) (n s : ℕ) → n / length ss ≤ quotaOf c ss n s
 quota-low c ss n s = omega arith
 
-quota-high : (c : ℕ → ℕ) (ss : List ℕ) (n s : ℕ) → extra c ss n s ≤ n / length ss + 1
+quota-high : (c : ℕ → ℕ) (ss : List ℕ) (n s : ℕ) → quotaOf c ss n s ≤ n / length ss + 1
 quota-high c ss n s = omega (arith, one-le (ltb (rank c ss s) (n % length ss)))
 
 -- EVEN
@@ -54,8 +54,9 @@ filled f ss xs s fit e in′ =
     subst P (has-place ss s in′) (filled-at f ss xs (place ss s) fit e in′)
 
 pub even : (ss xs : List ℕ) → Fit ss → 0 < length ss → Even ss (rebalanced ss xs)
+unfolding rebalanced
 even ss xs fit h =
-    let f : ℕ → ℕ = extra (countIn xs) ss (length xs) in
+    let f : ℕ → ℕ = quotaOf (countIn xs) ss (length xs) in
     let q = map f ss in
     let l = length-map ss f in
     let e = quota-sum (countIn xs) ss (length xs) (fit .rise) h in
@@ -148,7 +149,7 @@ find p (s ∷ ss) = elim (cases-bool (p s)) [
 -- QUOTAS ARE BEST: no other even numbers have more in common with the counts
 best : (c d K : ℕ → ℕ) (ss : List ℕ) (n : ℕ) → rises ss ≡ true → 0 < length ss → sumOver d ss ≡ n
     → ((k j : ℕ) → k < length ss → j < length ss → d (getD ss k 0) ≤ d (getD ss j 0) + 1)
-    → ((i : ℕ) → i < length ss → min (c (getD ss i 0)) (extra c ss n (getD ss i 0)) ≤ K (getD ss i 0))
+    → ((i : ℕ) → i < length ss → min (c (getD ss i 0)) (quotaOf c ss n (getD ss i 0)) ≤ K (getD ss i 0))
     → sumOver (λ s. min (c s) (d s)) ss ≤ sumOver K ss
 best c d K ss n r h e flat keeps =
     let m = length ss in
@@ -169,7 +170,7 @@ best c d K ss n r h e flat keeps =
           elim (cases-lt p (c s)) [
             | inl much ↦
                 let strict = rank-strict c ss i t l (ahead-more c s t (omega arith)) in
-                let q : extra c ss n s ≡ p + 1 = rw (lt-ltb (rank c ss s) rest (omega arith)) in
+                let q : quotaOf c ss n s ≡ p + 1 = rw (lt-ltb (rank c ss s) rest (omega arith)) in
                 omega (arith, keeps i l, high i l)
             | inr little ↦ omega (arith, keeps i l, quota-low c ss n s)
           ])
@@ -183,11 +184,11 @@ best c d K ss n r h e flat keeps =
           let s = getD ss i 0 in
           elim (cases-bool (ltb (rank c ss s) rest)) [
             | inl y ↦
-                let q : extra c ss n s ≡ p + 1 = rw y in
+                let q : quotaOf c ss n s ≡ p + 1 = rw y in
                 let rich : p < c s = elim (and-cases (ltb (rank c ss s) rest) (leb (c s) p) (none i l)) [ inl z ↦ absurd (both-ways (ltb (rank c ss s) rest) z y) | inr z ↦ leb-false (c s) p z ] in
                 rw y (omega (arith, keeps i l))
             | inr z ↦
-                let q : extra c ss n s ≡ p + 0 = rw z in
+                let q : quotaOf c ss n s ≡ p + 0 = rw z in
                 rw z (omega (arith, keeps i l))
           ]) in
           let spare = sum-eq (λ s. p + over s) d ss (λ i l. omega (arith, low i l)) in
@@ -228,10 +229,11 @@ any-quotas f ss xs r a =
     (attained f ss xs fit, λ e s in′. filled f ss xs s fit e in′)
 
 pub fewest : (ss xs : List ℕ) → Fit ss → 0 < length ss → Fewest ss xs (rebalanced ss xs)
+unfolding rebalanced
 fewest ss xs fit h zs l ev =
     let c = countIn xs in
     let d = countIn zs in
-    let f : ℕ → ℕ = extra c ss (length xs) in
+    let f : ℕ → ℕ = quotaOf c ss (length xs) in
     let all : sumOver d ss ≡ length xs = counts-sum ss zs (fit .rise) (ev .served) ∙ l in
     let listed : (i : ℕ) → i < length ss → Listed ss (getD ss i 0) = λ i b. (let e = place-at 0 ss i (fit .rise) b in omega arith) in
     let top = best c d (λ s. count s (kept ss xs (map f ss))) ss (length xs) (fit .rise) h all

@@ -16,12 +16,17 @@ use Rattle.assignment.specs.declared.moves.Move.{Move}
 use Rattle.assignment.specs.Even.{moved}
 use Rattle.assignment.specs.Moves.{handed, movesFrom, Counted-moves}
 
-pub moves-step : (done : List Move) (xs ys : List ℕ) (b : ℕ) → b < length xs → b < length ys
+moves-step : (done : List Move) (xs ys : List ℕ) (b : ℕ) → b < length xs → b < length ys
     → (done ++ listOf (handed b (getD xs b 0) (getD ys b 0))) ++ movesFrom (b + 1) (drop (b + 1) xs) (drop (b + 1) ys) ≡ done ++ movesFrom b (drop b xs) (drop b ys)
 moves-step done xs ys b h k =
     let one = listOf (handed b (getD xs b 0) (getD ys b 0)) in
     rw (drop-more xs b 0 h, drop-more ys b 0 k, append-assoc done one (movesFrom (b + 1) (drop (b + 1) xs) (drop (b + 1) ys)))
     (ap (λ n. done ++ (one ++ movesFrom n (drop (b + 1) xs) (drop (b + 1) ys))) (add-one b))
+
+-- the loop's step, where `items` are those so far
+pub moves-again : (done items all : List Move) (xs ys : List ℕ) (b : ℕ) → b < length xs → b < length ys → items ≡ done ++ listOf (handed b (getD xs b 0) (getD ys b 0))
+    → done ++ movesFrom b (drop b xs) (drop b ys) ≡ all → items ++ movesFrom (b + 1) (drop (b + 1) xs) (drop (b + 1) ys) ≡ all
+moves-again done items all xs ys b h k e w = rw e (moves-step done xs ys b h k ∙ w)
 
 one-moved : (b x y : ℕ) → y < 256 → length (listOf (handed b x y)) ≡ cond (eqb x y) 0 1
 one-moved b x y h = elim (cases-eq x y) [

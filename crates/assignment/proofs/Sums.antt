@@ -11,7 +11,7 @@ use lib.ListN.{length, getD}
 use Rattle.std.proofs.shelf.Tests.{and-parts, cases-lt, cases-bool, cases-eq, lt-ltb, le-ltb, ne-eqb, eq-eqb}
 use Rattle.std.proofs.shelf.Ways.{tells}
 use Rattle.assignment.specs.Even.{place, Listed}
-use Rattle.assignment.specs.Rule.{risesFrom, sumOver, ahead, rank, extra}
+use Rattle.assignment.specs.Rule.{risesFrom, sumOver, ahead, rank, quotaOf}
 use Rattle.assignment.proofs.Servers.{one, one-le, rise-above, sum-le-length}
 
 pub sum-eq : (f g : ℕ → ℕ) (ss : List ℕ) → ((i : ℕ) → i < length ss → f (getD ss i 0) ≡ g (getD ss i 0)) → sumOver f ss ≡ sumOver g ss
@@ -127,8 +127,8 @@ ranks c n r (x ∷ ss) rise =
     ]
 
 -- quotas depend only on how many buckets the servers of the list have
-pub quotas-same : (c e : ℕ → ℕ) (ss : List ℕ) (n : ℕ) → ((i : ℕ) → c (getD ss i 0) ≡ e (getD ss i 0)) → map (extra c ss n) ss ≡ map (extra e ss n) ss
-quotas-same c e ss n same = map-same (extra c ss n) (extra e ss n) ss (λ i h.
+pub quotas-same : (c e : ℕ → ℕ) (ss : List ℕ) (n : ℕ) → ((i : ℕ) → c (getD ss i 0) ≡ e (getD ss i 0)) → map (quotaOf c ss n) ss ≡ map (quotaOf e ss n) ss
+quotas-same c e ss n same = map-same (quotaOf c ss n) (quotaOf e ss n) ss (λ i h.
     let s = getD ss i 0 in
     let r : rank c ss s ≡ rank e ss s = sum-eq (λ t. one (ahead c t s)) (λ t. one (ahead e t s)) ss (λ k l. rw (same k, same i)) in
     rw r)

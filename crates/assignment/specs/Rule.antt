@@ -33,18 +33,18 @@ abbrev pub rank : (ℕ → ℕ) → List ℕ → ℕ → ℕ
 rank c servers s = sumOver (λ t. cond (ahead c t s) 1 0) servers
 
 -- the quota of s: the buckets divided by the servers, and one more for as many servers as the remainder says, those ahead first
-abbrev pub extra : (ℕ → ℕ) → List ℕ → ℕ → ℕ → ℕ
-extra c servers buckets s = buckets / length servers + cond (ltb (rank c servers s) (buckets % length servers)) 1 0
+abbrev pub quotaOf : (ℕ → ℕ) → List ℕ → ℕ → ℕ → ℕ
+quotaOf c servers buckets s = buckets / length servers + cond (ltb (rank c servers s) (buckets % length servers)) 1 0
 
 -- the quotas in the order of the servers
 abbrev pub quotas : List ℕ → List ℕ → List ℕ
-quotas servers xs = map (extra (λ s. count s xs) servers (length xs)) servers
+quotas servers xs = map (quotaOf (λ s. count s xs) servers (length xs)) servers
 
 -- one less of the quota at place i
 abbrev pub spent : List ℕ → ℕ → List ℕ
 spent q i = set q i (getD q i 0 - 1)
 
--- in rising order, each bucket whose server is listed and has quota left stays, and uses it; the others have none
+-- in rising order, each bucket whose server is listed and has quota left stays, and uses it; the others have none. Past the end of q there is no quota
 abbrev pub kept : List ℕ → List ℕ → List ℕ → List ℕ
 kept servers [] q = []
 kept servers (s ∷ ss) q = cond (ltb 0 (getD q (place servers s) 0)) (s ∷ kept servers ss (spent q (place servers s))) (65535 ∷ kept servers ss q)
@@ -71,7 +71,7 @@ abbrev pub sharedBy : List ℕ → List ℕ → List ℕ → List ℕ
 sharedBy q servers xs = dealt servers (kept servers xs q) (keptQuota servers xs q)
 
 -- THE RULE
-abbrev pub rebalanced : List ℕ → List ℕ → List ℕ
+unfoldable pub rebalanced : List ℕ → List ℕ → List ℕ
 rebalanced servers xs = sharedBy (quotas servers xs) servers xs
 
 -- as many buckets as there may be: from 16 to 65,536, and a number with a single bit, a power of two

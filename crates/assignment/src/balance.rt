@@ -9,7 +9,7 @@ ghost use Rattle.assignment.specs.Rule.{rises, quotas, kept, keptQuota, dealt,
 use crate::counts::NONE;
 use crate::counts::SERVERS;
 use crate::counts::counts;
-use crate::quota::rises;
+use crate::quota::is_rising;
 use crate::quota::set_quotas;
 use fault::Fault;
 
@@ -82,7 +82,7 @@ pub fn rebalance(assignment: &mut [u16], servers: &[u8]) -> Result<(), Fault>
     if servers.is_empty() {
         return Err(Fault::NoServer);
     }
-    if !rises(servers) {
+    if !is_rising(servers) {
         return Err(Fault::NoSuch);
     }
     let mut quota = [0usize; 256];

@@ -1,14 +1,12 @@
 // How many buckets each server shall have.
-ghost use mathlib.Core.Bool.{cond};
 ghost use mathlib.Core.List.{map};
 ghost use mathlib.Core.Path.{_≡_};
-ghost use Prim.Native.Nat.{_+_, _<_, _≤_};
-ghost use lib.Dec.{ltb};
+ghost use Prim.Native.Nat.{_<_, _≤_};
 ghost use lib.ListN.{length, getD};
-ghost use Rattle.assignment.specs.Rule.{rises, ahead, rank, extra};
+ghost use Rattle.assignment.specs.Rule.{rises, ahead, rank, quotaOf};
 
 // Does each number of the list stand above the one before?
-pub fn rises(servers: &[u8]) -> bool
+pub fn is_rising(servers: &[u8]) -> bool
     ensures { λ r. ⌜ r ≡ rises (now (servers .entry)) ⌝ }
 {
     let mut least = 0u16;
@@ -49,7 +47,7 @@ fn ahead_of(counts: &[usize], servers: &[u8], server: u8) -> usize
 // The quota of each server, in the list's order: an even part, and one more for those with most buckets as far as the rest goes.
 pub(crate) fn set_quotas(quota: &mut [usize], counts: &[usize], servers: &[u8], buckets: usize)
     requires { ⌜ length (now counts) ≡ 256 ⌝ ∗ ⌜ length (now quota) ≡ length (now servers) ⌝ ∗ ⌜ 0 < length (now servers) ⌝ ∗ ⌜ buckets ≤ 65536 ⌝ }
-    ensures { λ _. ⌜ now (quota .exit) ≡ map (extra (λ s. getD (now (counts .entry)) s 0) (now (servers .entry)) buckets) (now (servers .entry)) ⌝ }
+    ensures { λ _. ⌜ now (quota .exit) ≡ map (quotaOf (λ s. getD (now (counts .entry)) s 0) (now (servers .entry)) buckets) (now (servers .entry)) ⌝ }
 {
     let part = buckets / servers.len();
     let rest = buckets % servers.len();

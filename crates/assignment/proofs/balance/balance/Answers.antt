@@ -4,11 +4,12 @@ use native.Mathlib.Omega.{arith}
 use Prim.Native.Nat.{ℕ, _<_}
 use lib.ListN.{getD}
 use Rattle.assignment.specs.Even.{count}
-use Rattle.assignment.specs.Rule.{quotas}
+use Rattle.assignment.specs.Rule.{quotas, rebalanced}
 use Rattle.assignment.proofs.Sums.{quotas-same}
 use Rattle.assignment.proofs.balance.balance.Needs as need
 
 pub returns : need.returns
+unfolding rebalanced
 returns c =
     let ss = c .args .servers .now in
     let xs = c .args .assignment .now in

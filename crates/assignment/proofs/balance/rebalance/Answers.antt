@@ -18,7 +18,7 @@ use Rattle.assignment.proofs.balance.rebalance.Needs as need
 pub part-quota-end : need.part-quota-end
 part-quota-end c =
     let ss = c .args .servers .now in
-    let up : rises ss ≡ true = sym (c .rises .ensures) ∙ c .if-not-rises .left in
+    let up : rises ss ≡ true = sym (c .is-rising .ensures) ∙ c .if-not-is-rising .left in
     let few = rises-length 0 ss up (λ i. omega (arith, c .typed .servers i)) (omega arith) in
     omega arith
 
@@ -26,7 +26,7 @@ pub returns : need.returns
 returns c =
     let ss = c .args .servers .now in
     let xs = c .args .assignment .now in
-    let up : rises ss ≡ true = sym (c .rises .ensures) ∙ c .if-not-rises .left in
+    let up : rises ss ≡ true = sym (c .is-rising .ensures) ∙ c .if-not-is-rising .left in
     let fit : Fit ss = record { rise = up; real = λ i. omega (arith, c .typed .servers i) } in
     let some : 0 < length ss = grind (arith, tells) in
     let e : c .balance .last .assignment ≡ rebalanced ss xs = c .balance .ensures in

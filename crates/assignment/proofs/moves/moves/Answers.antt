@@ -10,7 +10,7 @@ use Rattle.std.proofs.shelf.Ways.{tells}
 use Rattle.std.specs.Of.Vec.{vec-items}
 use Rattle.std.specs.Vec.{listOf}
 use Rattle.assignment.specs.Moves.{movesFrom, comparable, handed}
-use Rattle.assignment.proofs.Handovers.{moves-step}
+use Rattle.assignment.proofs.Handovers.{moves-again}
 use Rattle.assignment.proofs.moves.moves.Needs as need
 use Rattle.assignment.proofs.moves.moves.Needs.{in-Some·in-Continue-push, in-rest}
 
@@ -19,14 +19,12 @@ loop-b-again c =
     let xs = c .args .old .now in
     let ys = c .args .new .now in
     let b = c .loop-b .b in
-    let step = moves-step (vec-items (c .loop-b .moves)) xs ys b (omega arith) (omega arith) in
-    let rest = movesFrom (b + 1) (drop (b + 1) xs) (drop (b + 1) ys) in
-    let this = handed b (getD xs b 0) (getD ys b 0) in
-    let items : vec-items (c .match-hand-over .moves) ≡ vec-items (c .loop-b .moves) ++ listOf this = elim (c .match-hand-over .came) [
-      | in-Some·in-Continue-push w ↦ ap vec-items (w .moves-is) ∙ (w .in-Continue-push .ensures tt .items ∙ ap (λ o. vec-items (c .loop-b .moves) ++ listOf o) (w .in-Some .ensures tt))
-      | in-rest w ↦ ap vec-items (w .moves-is) ∙ (sym (append-nil (vec-items (c .loop-b .moves))) ∙ ap (λ o. vec-items (c .loop-b .moves) ++ listOf o) (w .in-rest .ensures tt))
+    let done = vec-items (c .loop-b .moves) in
+    let items : vec-items (c .match-hand-over .moves) ≡ done ++ listOf (handed b (getD xs b 0) (getD ys b 0)) = elim (c .match-hand-over .came) [
+      | in-Some·in-Continue-push w ↦ ap vec-items (w .moves-is) ∙ (w .in-Continue-push .ensures tt .items ∙ ap (λ o. done ++ listOf o) (w .in-Some .ensures tt))
+      | in-rest w ↦ ap vec-items (w .moves-is) ∙ (sym (append-nil done) ∙ ap (λ o. done ++ listOf o) (w .in-rest .ensures tt))
     ] in
-    ap (λ l. l ++ rest) items ∙ (step ∙ c .loop-b .inv)
+    moves-again done (vec-items (c .match-hand-over .moves)) (movesFrom 0 xs ys) xs ys b (omega arith) (omega arith) items (c .loop-b .inv)
 
 pub returns : need.returns
 returns c =

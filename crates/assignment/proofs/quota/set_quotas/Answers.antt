@@ -7,7 +7,7 @@ use Prim.Native.Nat.{ℕ, suc, _+_, _%_, _<_}
 use lib.ListN.{length, getD, take}
 use Rattle.std.proofs.shelf.Lists.{take-more-set, map-more, take-all}
 use Rattle.std.proofs.shelf.Tests.{lt-ltb, le-ltb}
-use Rattle.assignment.specs.Rule.{rank, extra}
+use Rattle.assignment.specs.Rule.{rank, quotaOf}
 use Rattle.assignment.proofs.quota.set_quotas.Needs as need
 use Rattle.assignment.proofs.quota.set_quotas.Needs.{then-ahead-of-rest, else-ahead-of-rest}
 
@@ -16,7 +16,7 @@ loop-i-again c =
     let ss = c .args .servers .now in
     let q = c .loop-i .quota in
     let i = c .loop-i .i in
-    let f : ℕ → ℕ = extra (λ s. getD (c .args .counts .now) s 0) ss (c .args .buckets) in
+    let f : ℕ → ℕ = quotaOf (λ s. getD (c .args .counts .now) s 0) ss (c .args .buckets) in
     let g : ℕ → ℕ = λ s. getD (c .args .counts .now) s 0 in
     let value : c .if-ahead-of-rest .quota ≡ f (getD ss i 0) = elim (c .if-ahead-of-rest .came) [
       | then-ahead-of-rest w ↦ (let t = lt-ltb (rank g ss (getD ss i 0)) (c .args .buckets % length ss) (omega (arith, c .ahead-of .ensures, w .if-ahead-of-rest .taken)) in w .quota-is ∙ rw t)
@@ -27,5 +27,5 @@ loop-i-again c =
 pub returns : need.returns
 returns c =
     let ss = c .args .servers .now in
-    let f : ℕ → ℕ = extra (λ s. getD (c .args .counts .now) s 0) ss (c .args .buckets) in
+    let f : ℕ → ℕ = quotaOf (λ s. getD (c .args .counts .now) s 0) ss (c .args .buckets) in
     sym (take-all (c .loop-i .i) (c .loop-i .quota) (omega arith)) ∙ (c .loop-i .inv ∙ ap (map f) (take-all (c .loop-i .i) ss (omega arith)))

@@ -5,7 +5,7 @@ use Prim.Native.Nat.{ℕ, suc, _+_}
 use Rattle.std.proofs.shelf.Lists.{at-drop-all}
 use Rattle.assignment.specs.Rule.{risesFrom}
 use Rattle.assignment.proofs.Servers.{rises-step, rises-not}
-use Rattle.assignment.proofs.quota.rises.Needs as need
+use Rattle.assignment.proofs.quota.is_rising.Needs as need
 
 pub returns-then-server-least : need.returns-then-server-least
 returns-then-server-least c = sym (rises-not (c .loop-i .least) (c .args .servers .now) (c .loop-i .i) (omega arith) (omega arith)) ∙ c .loop-i .inv
