@@ -5,7 +5,7 @@ ghost use lib.ListN.{length};
 ghost use mathlib.Core.Bool.{true};
 ghost use Rattle.std.specs.Vec.{made};
 ghost use Rattle.assignment.specs.Even.{Even, Fewest};
-ghost use Rattle.assignment.specs.Rule.{rises, quotas, kept, keptQuota, dealt, rebalanced, answered};
+ghost use Rattle.assignment.specs.Rule.{rises, kept, keptQuota, dealt, rebalanced, answered};
 use crate::counts::NONE;
 use crate::counts::SERVERS;
 use crate::counts::counts;
@@ -59,7 +59,7 @@ fn deal(assignment: &mut [u16], servers: &[u8], quota: &mut [usize])
     }
 }
 
-// By the quotas that are set in `quota`, one place for each server.
+// The rule: quotas, then what stays, then what is dealt. `quota` is room for the quota of each server.
 fn balance(assignment: &mut [u16], servers: &[u8], quota: &mut [usize])
     requires { ⌜ length (now quota) ≡ length (now servers) ⌝ ∗ ⌜ rises (now servers) ≡ true ⌝ ∗ ⌜ 0 < length (now servers) ⌝ ∗ ⌜ length (now assignment) ≤ 65536 ⌝ }
     ensures { λ _. ⌜ now (assignment .exit) ≡ rebalanced (now (servers .entry)) (now (assignment .entry)) ⌝ }
