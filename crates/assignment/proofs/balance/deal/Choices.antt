@@ -1,3 +1,4 @@
+-- The invariants of the loops that deal, and that the inner one ends.
 use mathlib.Core.Path.{_≡_}
 use Prim.Native.Nat.{ℕ, _<_, _-_}
 use lib.ListN.{length, getD}

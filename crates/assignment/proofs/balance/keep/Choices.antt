@@ -1,3 +1,4 @@
+-- The invariants of the loops that keep.
 use mathlib.Core.Path.{_≡_}
 use Prim.Native.Nat.{ℕ, _≤_}
 use lib.ListN.{getD}

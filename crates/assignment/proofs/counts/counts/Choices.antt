@@ -1,3 +1,4 @@
+-- The invariant of the loop that counts.
 use mathlib.Core.Path.{_≡_}
 use Prim.Native.Nat.{ℕ, _+_, _<_}
 use lib.ListN.{length, drop, getD}

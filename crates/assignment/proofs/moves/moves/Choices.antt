@@ -1,3 +1,4 @@
+-- The invariant of the loop that lists the handovers.
 use mathlib.Core.List.{_++_}
 use mathlib.Core.Path.{_≡_}
 use lib.ListN.{drop}

@@ -1,3 +1,4 @@
+-- The invariant of the loop that counts the servers ahead.
 use mathlib.Core.Path.{_≡_}
 use mathlib.Core.Bool.{cond}
 use Prim.Native.Nat.{_+_}

@@ -1,3 +1,4 @@
+-- The invariant of the loop over the list.
 use mathlib.Core.Path.{_≡_}
 use lib.ListN.{drop}
 use Rattle.assignment.specs.Rule.{risesFrom}

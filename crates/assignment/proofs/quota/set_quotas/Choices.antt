@@ -1,3 +1,4 @@
+-- The invariant of the loop that sets the quotas.
 use mathlib.Core.Path.{_≡_}
 use mathlib.Core.List.{map}
 use lib.ListN.{take, getD}
