@@ -1,0 +1,5 @@
+pub mod Numbers
+pub mod Cuts
+pub mod Positions
+pub mod Again
+pub mod Forth

@@ -1,0 +1,5 @@
+pub mod Inside
+pub mod Located
+pub mod Fields
+pub mod ByKind
+pub mod Form

@@ -1,0 +1,11 @@
+-- The number of the code is that of the definition.
+use borrow.Author.Needs.{needs}
+use Rattle.wire.specs.Format.{one}
+use Rattle.wire.proofs.Numbers.{number-cut, number-here}
+use Rattle.wire_read.proofs.number.split8.Needs as need
+
+pub returns-in-rest : need.returns-in-rest
+returns-in-rest c = number-cut one (c .args .bytes .now) (search needs)
+
+pub returns : need.returns
+returns c = number-here one (c .args .bytes .now) _ (search needs) (search needs)
