@@ -3,10 +3,8 @@ ghost use mathlib.Core.Path.{_≡_};
 ghost use mathlib.Core.List.{[], _∷_};
 ghost use Rattle.wire.specs.Format.{readAll, readFields};
 ghost use Rattle.wire.specs.Formats.{bucketF, placeF, beforeF, serverBeforeF, afterF, serverF, reached, stand, behind, door, forgotten};
-ghost use Rattle.wire_read.specs.Views.{shownAt, toldLink, toldServer, readRest};
-use crate::number::split8;
-use crate::number::split32;
-use crate::place::read_at;
+ghost use Rattle.wire_packet.specs.Views.{shownAt};
+ghost use Rattle.wire_read.specs.Views.{toldLink, toldServer, readRest};
 use chain::way::Link;
 use fault::Fault;
 use flow::buckets::Buckets;
@@ -14,6 +12,9 @@ use wire::message::At;
 use wire::message::Control;
 use wire::message::Unread;
 use wire::message::UnreadFromFault;
+use wire_packet::number::split8;
+use wire_packet::number::split32;
+use wire_packet::place::read_at;
 
 // The place that a message speaks of, and the bytes behind it. Places are numbered from 1.
 fn read_numbered(bytes: &[u8], buckets: Buckets) -> Result<(At, &[u8]), Fault>

@@ -1,9 +1,6 @@
 // Messages read from bytes: to the end, or to the first fault.
 mod control;
-mod number;
 mod order;
-mod packet;
-mod place;
 
 ghost use mathlib.Core.Path.{_≡_};
 ghost use Rattle.std.specs.declared.option.Option.the-variants.{None};
@@ -16,13 +13,10 @@ use crate::control::read_behind;
 use crate::control::read_door;
 use crate::control::read_forgotten;
 use crate::control::read_stand;
-use crate::number::split8;
 use crate::order::read_added;
 use crate::order::read_closed;
 use crate::order::read_removed;
 use crate::order::read_ticks;
-use crate::packet::read_packet;
-use crate::packet::read_refused;
 use fault::Fault;
 use flow::buckets::Buckets;
 use wire::message::Control;
@@ -30,6 +24,9 @@ use wire::message::Message;
 use wire::message::Order;
 use wire::message::Unread;
 use wire::message::UnreadFromFault;
+use wire_packet::number::split8;
+use wire_packet::read_packet;
+use wire_packet::read_refused;
 
 fn as_control<'a>(found: Result<Control, Unread>) -> Result<Message<'a>, Unread>
     ensures { λ r. ⌜ seen r ≡ mapOk Said found ⌝ }

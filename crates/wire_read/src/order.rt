@@ -4,13 +4,13 @@ ghost use Rattle.std.specs.declared.option.Option.the-variants.{None};
 ghost use Rattle.wire.specs.Stops.{located};
 ghost use Rattle.wire.specs.Format.{readAll};
 ghost use Rattle.wire.specs.Formats.{closed, added, removed, ticks};
-use crate::number::split8;
-use crate::number::split16;
-use crate::number::split32;
 use fault::Fault;
 use flow::key::FlowKey;
 use flow::key::Protocol;
 use wire::message::Order;
+use wire_packet::number::split8;
+use wire_packet::number::split16;
+use wire_packet::number::split32;
 
 pub fn read_closed(bytes: &[u8]) -> Result<Order, Fault>
     ensures { λ r. ⌜ located None r ≡ readAll closed 0 (now (bytes .entry)) ⌝ }

@@ -1,4 +1,7 @@
 // Packets between machines, and packets that go back to their sender, as bytes.
+pub mod number;
+pub mod place;
+
 ghost use mathlib.Core.Path.{_≡_};
 ghost use mathlib.Core.List.{[], _∷_};
 ghost use Rattle.chain.specs.Ways.{wayNumber};
@@ -8,7 +11,7 @@ ghost use Rattle.wire.specs.Seen.{seen};
 ghost use Rattle.wire.specs.Stops.{located};
 ghost use Rattle.wire.specs.Format.{readField, readFields, ended, readAll};
 ghost use Rattle.wire.specs.Formats.{wayF, askerF, askerServerF, mayOpenF, reached, insideOf, packet, refused};
-ghost use Rattle.wire_read.specs.Views.{shownAsker, shownWay, shownOpens};
+ghost use Rattle.wire_packet.specs.Views.{shownAsker, shownWay, shownOpens};
 use crate::number::split8;
 use crate::number::split16;
 use crate::number::split32;

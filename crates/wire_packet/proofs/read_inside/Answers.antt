@@ -1,8 +1,8 @@
 -- The session that was read, in its bucket or not, is the definition's.
 use borrow.Author.Needs.{needs}
 use Rattle.std.proofs.shelf.Results.{err-from-errBy}
-use Rattle.wire_read.proofs.Inside.{inside-bad, inside-other, inside-ok}
-use Rattle.wire_read.proofs.packet.read_inside.Needs as need
+use Rattle.wire_packet.proofs.Inside.{inside-bad, inside-other, inside-ok}
+use Rattle.wire_packet.proofs.read_inside.Needs as need
 
 pub returns-in-Break-flow : need.returns-in-Break-flow
 returns-in-Break-flow c =

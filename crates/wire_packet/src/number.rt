@@ -1,7 +1,7 @@
 // Numbers in front of a slice, high byte first.
 ghost use mathlib.Core.Path.{_≡_};
 ghost use Rattle.wire.specs.Format.{one, two, four, numberIn};
-ghost use Rattle.wire_read.specs.Views.{shown};
+ghost use Rattle.wire_packet.specs.Views.{shown};
 use fault::Fault;
 
 // The first byte, and the bytes behind it.

@@ -4,8 +4,8 @@ use mathlib.Core.Path.{_≡_, sym, ap, _∙_}
 use Rattle.std.proofs.shelf.Results.{err-from-errBy}
 use Rattle.wire.specs.Format.{two, readFields, ended}
 use Rattle.wire.specs.Formats.{wayF, askerF, askerServerF, mayOpenF, plainF, reached, packet}
-use Rattle.wire_read.proofs.Fields.{resumes}
-use Rattle.wire_read.proofs.packet.read_carried.Needs as need
+use Rattle.wire_packet.proofs.Fields.{resumes}
+use Rattle.wire_packet.proofs.read_carried.Needs as need
 
 pub returns-in-Break-opens : need.returns-in-Break-opens
 returns-in-Break-opens c =

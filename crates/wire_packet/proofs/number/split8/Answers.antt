@@ -2,7 +2,7 @@
 use borrow.Author.Needs.{needs}
 use Rattle.wire.specs.Format.{one}
 use Rattle.wire.proofs.Numbers.{number-cut, number-here}
-use Rattle.wire_read.proofs.number.split8.Needs as need
+use Rattle.wire_packet.proofs.number.split8.Needs as need
 
 pub returns-in-rest : need.returns-in-rest
 returns-in-rest c = number-cut one (c .args .bytes .now) (search needs)

@@ -4,9 +4,9 @@ use mathlib.Core.Path.{ap}
 use lib.ListN.{drop}
 use Rattle.wire.specs.Format.{four, ended}
 use Rattle.wire.specs.Formats.{bucketF, plainF, reached, packet}
-use Rattle.wire_read.proofs.Fields.{resumes}
-use Rattle.wire_read.proofs.Located.{seen-located}
-use Rattle.wire_read.proofs.packet.read_packet.Needs as need
+use Rattle.wire_packet.proofs.Fields.{resumes}
+use Rattle.wire_packet.proofs.Located.{seen-located}
+use Rattle.wire_packet.proofs.read_packet.Needs as need
 
 pub returns : need.returns
 returns c =

@@ -2,7 +2,7 @@
 use borrow.Author.Needs.{needs}
 use Rattle.wire.specs.Format.{four}
 use Rattle.wire.proofs.Numbers.{number-cut, number-here}
-use Rattle.wire_read.proofs.number.split32.Needs as need
+use Rattle.wire_packet.proofs.number.split32.Needs as need
 
 pub returns-in-rest : need.returns-in-rest
 returns-in-rest c = number-cut four (c .args .bytes .now) (search needs)

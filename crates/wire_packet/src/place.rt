@@ -3,7 +3,7 @@ ghost use mathlib.Core.List.{[], _∷_};
 ghost use mathlib.Core.Path.{_≡_};
 ghost use Rattle.wire.specs.Format.{four, readFields};
 ghost use Rattle.wire.specs.Formats.{bucketF, plainF, reached};
-ghost use Rattle.wire_read.specs.Views.{shownAt};
+ghost use Rattle.wire_packet.specs.Views.{shownAt};
 use crate::number::split16;
 use crate::number::split32;
 use fault::Fault;
