@@ -1,1 +1,6 @@
 pub mod Same
+pub mod Every
+pub mod Reversal
+pub mod Powers
+pub mod Heads
+pub mod Digits

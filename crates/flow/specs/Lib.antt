@@ -1,1 +1,5 @@
 pub mod Key
+pub mod Mix
+pub mod Buckets
+pub mod Bytes
+pub mod Ipv4

@@ -1,0 +1,4 @@
+pub mod Even
+pub mod Rule
+pub mod Moves
+pub mod Laws
