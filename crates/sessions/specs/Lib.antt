@@ -1,0 +1,5 @@
+pub mod Keys
+pub mod Found
+pub mod Entries
+pub mod Slots
+pub mod Clocks
