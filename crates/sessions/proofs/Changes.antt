@@ -46,6 +46,10 @@ pub without-miss : (k : Key) (es : List Entry) → seenIn k es ≡ None → with
 without-miss k [] m = refl
 without-miss k (e ∷ es) m = let ih = without-miss k es in grind arith
 
+pub noted-miss : (k : Key) (t : ℕ) (es : List Entry) → seenIn k es ≡ None → noted k t es ≡ es
+noted-miss k t [] m = refl
+noted-miss k t (e ∷ es) m = let ih = noted-miss k t es in grind arith
+
 -- what is found afterwards
 same-at : (a b q : Key) → sameKey a b ≡ true → sameKey a q ≡ sameKey b q
 same-at a b q t = ap (λ x. sameKey x q) (same-eq a b t)

@@ -1,5 +1,5 @@
 -- Entries filed in slots: a look-up in one slot is one in all, and a change of one slot is a change of all. Assumes nothing.
-use mathlib.Core.Bool.{Bool, true, false, cond}
+use mathlib.Core.Bool.{Bool, true, false, not, _&&_, cond}
 use mathlib.Core.List.{List, [], _∷_, _++_}
 use mathlib.Core.Logic.{_⊎_, inl, inr}
 use mathlib.Core.Path.{_≡_, refl, sym, ap, _∙_, subst}
@@ -7,7 +7,7 @@ use native.Mathlib.Omega.{arith}
 use Prim.Native.Nat.{ℕ, zero, suc, _+_, _-_, _<_, _≤_}
 use lib.ListN.{length, getD, set}
 use Rattle.std.proofs.shelf.Lists.{getD-set-same, getD-set-other, append-nil, length-append}
-use Rattle.std.proofs.shelf.Tests.{cases-bool, cases-eq, cases-lt}
+use Rattle.std.proofs.shelf.Tests.{cases-bool, cases-eq, false≢true, and-parts, and-from, eqb-true, eq-eqb, leb-true, le-leb}
 use Rattle.std.proofs.shelf.Sums.{sumBy-append}
 use Rattle.std.proofs.shelf.Elements.{all-append}
 use Rattle.std.specs.declared.option.Option.{Option}
@@ -17,8 +17,54 @@ use Rattle.sessions.specs.declared.key.Key.{Key}
 use Rattle.sessions.specs.declared.entry.Entry.{Entry}
 use Rattle.sessions.specs.Keys.{sameKey, slotOf, inPlace}
 use Rattle.sessions.specs.Entries.{seenIn, Once, without, countIn}
-use Rattle.sessions.specs.Slots.{flat, Filed, Tidy}
+use Rattle.std.specs.Options.{isSome}
+use lib.Dec.{eqb, leb}
+use Rattle.sessions.specs.Slots.{flat, filed, tidy, fresh}
 use Rattle.sessions.proofs.Same.{same-eq}
+
+-- the tests of the invariant as facts
+abbrev pub Filed : ℕ → List Entry → Type 0
+Filed n es = All (λ e. slotOf (e .key) ≡ n) es × Once es
+
+abbrev pub Tidy : ℕ → List (List Entry) → Type 0
+Tidy n [] = Unit {0}
+Tidy n (s ∷ ss) = Filed n s × Tidy (suc n) ss
+
+abbrev pub Fresh : ℕ → List Entry → Type 0
+Fresh t es = All (λ e. t ≤ e .seen) es
+
+none-found : (o : Option ℕ) → not (isSome o) ≡ true → o ≡ None
+none-found None h = refl
+none-found (Some t) h = absurd (false≢true h)
+
+filed-in : (n : ℕ) (es : List Entry) → filed n es ≡ true → Filed n es
+filed-in n [] h = (tt, tt)
+filed-in n (e ∷ es) h =
+    let a = and-parts _ _ h in
+    let b = and-parts _ _ (a .1) in
+    let r = filed-in n es (b .1) in
+    ((eqb-true (slotOf (e .key)) n (a .0), r .0), (none-found (seenIn (e .key) es) (b .0), r .1))
+
+filed-out : (n : ℕ) (es : List Entry) → Filed n es → filed n es ≡ true
+filed-out n [] h = refl
+filed-out n (e ∷ es) h =
+    and-from _ _ (eq-eqb (slotOf (e .key)) n (h .0 .0)) (and-from _ _ (ap (λ o. not (isSome o)) (h .1 .0)) (filed-out n es (h .0 .1, h .1 .1)))
+
+pub tidy-in : (n : ℕ) (ss : List (List Entry)) → tidy n ss ≡ true → Tidy n ss
+tidy-in n [] h = tt
+tidy-in n (s ∷ ss) h = let a = and-parts _ _ h in (filed-in n s (a .0), tidy-in (suc n) ss (a .1))
+
+pub tidy-out : (n : ℕ) (ss : List (List Entry)) → Tidy n ss → tidy n ss ≡ true
+tidy-out n [] h = refl
+tidy-out n (s ∷ ss) h = and-from _ _ (filed-out n s (h .0)) (tidy-out (suc n) ss (h .1))
+
+pub fresh-in : (t : ℕ) (es : List Entry) → fresh t es ≡ true → Fresh t es
+fresh-in t [] h = tt
+fresh-in t (e ∷ es) h = let a = and-parts _ _ h in (leb-true t (e .seen) (a .0), fresh-in t es (a .1))
+
+pub fresh-out : (t : ℕ) (es : List Entry) → Fresh t es → fresh t es ≡ true
+fresh-out t [] h = refl
+fresh-out t (e ∷ es) h = and-from _ _ (le-leb t (e .seen) (h .0)) (fresh-out t es (h .1))
 
 -- one after the other
 seen-append-none : (q : Key) (xs ys : List Entry) → seenIn q xs ≡ None → seenIn q (xs ++ ys) ≡ seenIn q ys

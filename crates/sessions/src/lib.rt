@@ -2,3 +2,5 @@
 pub mod clock;
 pub mod entry;
 pub mod key;
+pub mod store;
+mod tally;
