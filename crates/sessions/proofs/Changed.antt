@@ -36,7 +36,7 @@ cond-some : (b : Bool) (x y : ℕ) → x ≡ y → x + cond b 0 0 ≡ y
 cond-some true x y e = omega arith
 cond-some false x y e = omega arith
 
-nothing : (k : Key) (es : List Entry) → seenIn k es ≡ None → Changed es es k None
+pub nothing : (k : Key) (es : List Entry) → seenIn k es ≡ None → Changed es es k None
 nothing k es n = record {
   found = λ q. elim (cases-bool (sameKey q k)) [ inl y ↦ rw (y, same-eq q k y) n | inr m ↦ rw m ];
   counts = λ b p. rw n;

@@ -5,3 +5,4 @@ pub mod Files
 pub mod Sums
 pub mod Stores
 pub mod Changed
+pub mod Steps

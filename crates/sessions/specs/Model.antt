@@ -57,6 +57,12 @@ pub record Changed (was after : List Entry) (k : Key) (w : Option ℕ) : Type 0 
 abbrev pub most : ℕ
 most = 65536
 
+-- a session more, which was not open
+abbrev pub Adding : Key → ℕ → List Entry → List Entry → Result (Unit {0}) Error → Type 0
+Adding k t was after (Ok u) = Changed was after k (Some t)
+Adding k t was after (Err Memory) = after ≡ was
+Adding k t was after (Err (Of f)) = ⊥
+
 -- opening a session: one that is open has the tick noted; a refusal changes nothing
 abbrev pub Opening : Key → ℕ → List Entry → List Entry → Result (Unit {0}) Error → Type 0
 Opening k t was after (Ok u) = Changed was after k (Some t) × ((isSome (seenIn k was) ≡ true) ⊎ (length was < most))

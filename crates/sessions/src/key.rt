@@ -1,5 +1,6 @@
 // A session at a place of a bucket.
 ghost use mathlib.Core.Path.{_≡_};
+ghost use Prim.Native.Nat.{_<_};
 ghost use Rattle.sessions.specs.Keys.{sameKey, slotOf, weigh};
 use flow::key::FlowKey;
 
@@ -15,6 +16,14 @@ impl Key {
         ensures { λ r. ⌜ r ≡ sameKey (now (self .entry)) (now (other .entry)) ⌝ }
     {
         self.bucket == other.bucket && self.place == other.place && self.flow.same(other.flow)
+    }
+
+    // The bucket as an index.
+    pub fn bucket_index(&self) -> usize
+        ensures value { λ r. ⌜ r ≡ now (self .entry) .bucket ⌝ }
+        ensures bound { λ r. ⌜ r < 65536 ⌝ }
+    {
+        usize::from(self.bucket)
     }
 
     // Its slot by a hash of all of it: the fields weighed by odd numbers of 64 bits, and the sum's highest 16 bits.

@@ -1,19 +1,26 @@
 ghost use mathlib.Core.Bool.{false};
 ghost use mathlib.Core.List.{[]};
 ghost use mathlib.Core.Path.{_≡_};
+ghost use Prim.Native.Nat.{_<_};
 ghost use Rattle.std.specs.Options.{isSome};
 ghost use Rattle.std.specs.Vec.{made};
 ghost use Rattle.std.specs.declared.option.Option.the-variants.{None};
 ghost use Rattle.sessions.specs.Entries.{without};
-ghost use Rattle.sessions.specs.Model.{entriesOf, at, countAt, total, touched, Changed};
+ghost use Rattle.sessions.specs.Model.{entriesOf, at, countAt, total, touched, Changed, Opening, Adding};
 use super::super::entry;
+use super::super::entry::Entry;
 use super::super::key::Key;
 use super::super::tally;
 use super::Sessions;
+use fault::Error;
+use fault::ErrorFromAlloc;
+use fault::Fault;
 use std::alloc::AllocError;
 use std::alloc::Global;
 
 const SLOTS: usize = 65536;
+// As many sessions as a server has at once.
+const MOST: usize = 65536;
 
 impl Sessions {
     pub fn new(heap: Global) -> Result<Sessions, AllocError>
@@ -80,8 +87,40 @@ impl Sessions {
         if !entry::remove(&mut self.slots[key.slot()], key) {
             return false;
         }
-        tally::lower(&mut self.tallies[usize::from(key.bucket)], key.place);
+        tally::lower(&mut self.tallies[key.bucket_index()], key.place);
         self.len -= 1;
         true
+    }
+
+    // Opens the session, or notes the tick where it is open. Refused, where it would be one too many; a refusal changes nothing.
+    pub fn open(&mut self, key: Key, tick: u64) -> Result<(), Error>
+        ensures { λ r. ⌜ Opening key tick (entriesOf (now (self .entry))) (entriesOf (now (self .exit))) r ⌝ }
+    {
+        if self.touch(&key, tick) {
+            return Ok(());
+        }
+        if self.len >= MOST {
+            return Err(Error::Of(Fault::ServerFull));
+        }
+        self.add(key, tick)
+    }
+
+    fn add(&mut self, key: Key, tick: u64) -> Result<(), Error>
+        requires { ⌜ (at (now self) key ≡ None) × (total (now self) < 65536) ⌝ }
+        ensures { λ r. ⌜ Adding key tick (entriesOf (now (self .entry))) (entriesOf (now (self .exit))) r ⌝ }
+    {
+        let bucket = key.bucket_index();
+        tally::raise(&mut self.tallies[bucket], key.place)?;
+        match self.slots[key.slot()].push(Entry { key, seen: tick }) {
+            Ok(()) => {
+                self.len += 1;
+                self.oldest = self.oldest.min(tick);
+                Ok(())
+            }
+            Err(_) => {
+                tally::lower(&mut self.tallies[bucket], key.place);
+                Err(Error::Memory)
+            }
+        }
     }
 }
