@@ -6,3 +6,4 @@ pub mod Sums
 pub mod Stores
 pub mod Changed
 pub mod Steps
+pub mod Opened

@@ -7,7 +7,7 @@ use native.Mathlib.Omega.{arith}
 use Prim.Native.Nat.{ℕ, zero, suc, _+_, _-_, _<_, _≤_, min}
 use lib.Dec.{eqb}
 use lib.ListN.{length, getD, set}
-use Rattle.std.proofs.shelf.Lists.{map-set, length-map, length-set, getD-set-same, getD-set-other, set-getD}
+use Rattle.std.proofs.shelf.Lists.{map-set, length-map, length-set, getD-set-same, getD-set-other, set-getD, set-set}
 use Rattle.std.proofs.shelf.Elements.{all-push, all-weaker}
 use Rattle.std.proofs.shelf.Tests.{cases-bool, cases-eq, ne-eqb, eq-eqb, eqb-true, false≢true}
 use Rattle.std.specs.Of.Vec.{vec-items, vec-len}
@@ -25,11 +25,11 @@ use Rattle.sessions.specs.Keys.{sameKey, slotOf, inPlace}
 use Rattle.sessions.specs.Entries.{seenIn, noted, without, countIn}
 use Rattle.sessions.specs.Slots.{flat}
 use Rattle.sessions.specs.Tallies.{talliedIn}
-use Rattle.sessions.specs.Model.{one, touched, Changed}
+use Rattle.sessions.specs.Model.{entriesOf, one, touched, Changed}
 use Rattle.sessions.proofs.Same.{slot-below}
 use Rattle.sessions.proofs.Changes.{noted-miss, without-miss, count-without, length-without, once-push, once-noted, once-without, all-noted, all-without}
 use Rattle.sessions.proofs.Files.{Filed, Tidy, Fresh, tidy-in, fresh-in, tidy-slot, seen-flat, all-slot, without-flat}
-use Rattle.sessions.proofs.Stores.{Holds, slot-at, long}
+use Rattle.sessions.proofs.Stores.{Holds, slot-at, long, count-few}
 use Rattle.sessions.proofs.Changed.{nothing, noted-slot, without-slot, push-slot, changed-all, Retallied, changed-holds}
 
 pub none-seen : (o : Option ℕ) → isSome o ≡ false → o ≡ None
@@ -49,6 +49,10 @@ talliesOf s = map vec-items (vec-items (s .tallies))
 
 pub holds : (s : Sessions) → Holds (slotsOf s) (talliesOf s) (s .len) (s .oldest)
 holds s = (s .filing, (s .number, (s .lists, (s .places, (s .ages, tt)))))
+
+pub len-is : (s : Sessions) → (s .len ≡ length (entriesOf s)) × (s .len ≤ 65536)
+unfolding entriesOf
+len-is s = s .number
 
 pub slot-within : (s : Sessions) (k : Key) (i : ℕ) → i ≡ slotOf k → i < vec-len (s .slots)
 slot-within s k i e = omega (arith, slot-below k, long (s .slots) (s .filing .0) .0)
@@ -199,3 +203,65 @@ pub none-step : (s : Sessions) (k : Key) (ss : List (List Entry)) → ss ≡ slo
 none-step s k ss e n =
     let z = none-seen (seenIn k (flat (slotsOf s))) n in
     (rw e (record { hold = holds s; change = nothing k (flat (slotsOf s)) z }), ap flat e ∙ sym (without-miss k (flat (slotsOf s)) z))
+
+-- one session more
+pub tally-few : (s : Sessions) (k : Key) (j : ℕ) (u : Vec Tally Global) → j ≡ k .bucket → j < 65536 → u ≡ getD (vec-items (s .tallies)) j u → length (flat (slotsOf s)) < 65536
+    → talliedIn (k .place) (vec-items u) < 65536
+tally-few s k j u js b g few =
+    omega (arith, ap (talliedIn (k .place)) (bucket-at s j u b g), s .places j (k .place) b, count-few j (k .place) (s .len) (slotsOf s) (s .number), s .number .0)
+
+pub tallies-same : (s : Sessions) (j : ℕ) (u u′ : Vec Tally Global) → j < 65536 → u ≡ getD (vec-items (s .tallies)) j u → vec-items u′ ≡ vec-items u
+    → map vec-items (set (vec-items (s .tallies)) j u′) ≡ talliesOf s
+tallies-same s j u u′ b g e = tallies-after s j u′ ∙ (rw (e, bucket-at s j u b g) (set-getD (talliesOf s) j []))
+
+pub refused-holds : (s : Sessions) (ts : List (List Tally)) → ts ≡ talliesOf s → Holds (slotsOf s) ts (s .len) (s .oldest)
+refused-holds s ts e = rw e (holds s)
+
+raised-at : (a b : ℕ) (q : Bool) → a ≡ b + cond q 1 0 → a + cond q 0 0 ≡ b + cond q 1 0
+raised-at a b true e = omega arith
+raised-at a b false e = omega arith
+
+pub add-step : (s : Sessions) (k : Key) (t o i j : ℕ) (v v′ : Vec Entry Global) (u u′ : Vec Tally Global) → seenIn k (flat (slotsOf s)) ≡ None → length (flat (slotsOf s)) < 65536
+    → i ≡ slotOf k → v ≡ getD (vec-items (s .slots)) i v → vec-items v′ ≡ vec-items v ++ record { key = k; seen = t } ∷ []
+    → j ≡ k .bucket → j < 65536 → u ≡ getD (vec-items (s .tallies)) j u → ((q : ℕ) → talliedIn q (vec-items u′) ≡ talliedIn q (vec-items u) + cond (eqb (k .place) q) 1 0)
+    → o ≡ min (s .oldest) t
+    → Step s k (Some t) (map vec-items (set (vec-items (s .slots)) i v′)) (map vec-items (set (vec-items (s .tallies)) j u′)) (s .len + 1) o
+add-step s k t o i j v v′ u u′ e few is g h js b gu up m =
+    let f = home-filed s k in
+    let n : seenIn k (home s k) ≡ None = sym (home-seen s k) ∙ e in
+    let x : Entry = record { key = k; seen = t } in
+    let es = home s k ++ x ∷ [] in
+    let ts = set (talliesOf s) (k .bucket) (vec-items u′) in
+    let l = s .lists in
+    let r : Retallied (talliesOf s) ts k (seenIn k (flat (slotsOf s))) (Some t) =
+        rw e (retallied (talliesOf s) (vec-items u′) k None (Some t) (omega arith)
+        (λ p. raised-at _ _ (eqb (k .place) p) (up p ∙ ap (λ y. talliedIn p y + cond (eqb (k .place) p) 1 0) (bucket-at s j u b gu ∙ ap (λ y. getD (talliesOf s) y []) js)))) in
+    step-moved s k (Some t) _ _ _ _ (s .len + 1) o (slots-after s k i v v′ (λ ys. ys ++ x ∷ []) is g h) (tallies-after s j u′ ∙ ap (λ y. set (talliesOf s) y (vec-items u′)) js)
+    (step-list s k (Some t) es ts (s .len + 1) o (all-push (λ y. slotOf (y .key) ≡ slotOf k) (home s k) x (f .0) refl, once-push k t (home s k) (f .1) n) (push-slot k t (home s k) n)
+    (all-push (λ y. o ≤ y .seen) (home s k) x (home-fresh s k o (omega arith)) (omega arith)) (omega arith) (length-set (talliesOf s) (k .bucket) (vec-items u′) ∙ l) r
+    (rw e (omega arith)) (omega (arith, s .number .0)))
+
+-- a tally raised and lowered again
+zeros : (q : Bool) (a b : ℕ) → a + cond q 0 0 ≡ b + cond q 0 0 → a ≡ b
+zeros true a b e = omega arith
+zeros false a b e = omega arith
+
+undone-at : (a b c : ℕ) (q : Bool) → a ≡ b - cond q 1 0 → b ≡ c + cond q 1 0 → a + cond q 0 0 ≡ c + cond q 0 0
+undone-at a b c true e f = omega arith
+undone-at a b c false e f = omega arith
+
+pub undone-holds : (s : Sessions) (k : Key) (j : ℕ) (ss : List (List Entry)) (u u′ w w′ : Vec Tally Global) → ss ≡ slotsOf s → j ≡ k .bucket → j < 65536 → u ≡ getD (vec-items (s .tallies)) j u
+    → ((q : ℕ) → talliedIn q (vec-items u′) ≡ talliedIn q (vec-items u) + cond (eqb (k .place) q) 1 0)
+    → w ≡ getD (set (vec-items (s .tallies)) j u′) j w → ((q : ℕ) → talliedIn q (vec-items w′) ≡ talliedIn q (vec-items w) - cond (eqb (k .place) q) 1 0)
+    → Holds ss (map vec-items (set (set (vec-items (s .tallies)) j u′) j w′)) (s .len) (s .oldest)
+undone-holds s k j ss u u′ w w′ e js b g up gw low =
+    let ts = set (talliesOf s) (k .bucket) (vec-items w′) in
+    let h : j < length (vec-items (s .tallies)) = omega (arith, long (s .tallies) (s .lists) .1) in
+    let same : w ≡ u′ = gw ∙ getD-set-same (vec-items (s .tallies)) j u′ w h in
+    let l = s .lists in
+    let r : Retallied (talliesOf s) ts k None None = retallied (talliesOf s) (vec-items w′) k None None (omega arith)
+        (λ p. undone-at _ _ _ (eqb (k .place) p) (low p) (ap (λ y. talliedIn p (vec-items y)) same ∙ (up p ∙ ap (λ y. talliedIn p y + cond (eqb (k .place) p) 1 0) (bucket-at s j u b g ∙ ap (λ y. getD (talliesOf s) y []) js)))) in
+    let z : map vec-items (set (set (vec-items (s .tallies)) j u′) j w′) ≡ ts =
+        ap (map vec-items) (set-set (vec-items (s .tallies)) j u′ w′) ∙ (tallies-after s j w′ ∙ ap (λ y. set (talliesOf s) y (vec-items w′)) js) in
+    rw (e, z)
+    (s .filing, (s .number, (length-set (talliesOf s) (k .bucket) (vec-items w′) ∙ l, ((λ x p y. zeros (inPlace x p k) _ _ (r x p y) ∙ s .places x p y), (s .ages, tt)))))
