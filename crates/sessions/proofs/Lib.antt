@@ -7,3 +7,5 @@ pub mod Stores
 pub mod Changed
 pub mod Steps
 pub mod Opened
+pub mod Lapse
+pub mod Idled

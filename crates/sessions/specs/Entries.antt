@@ -2,7 +2,7 @@
 use mathlib.Core.Bool.{Bool, cond, true, false, not}
 use mathlib.Core.Path.{_≡_}
 use mathlib.Core.List.{List, [], _∷_}
-use Prim.Native.Nat.{ℕ, _+_}
+use Prim.Native.Nat.{ℕ, _+_, min}
 use lib.Dec.{leb}
 use Rattle.std.specs.declared.option.Option.{Option}
 use Rattle.std.specs.declared.option.Option.the-variants.{Some, None}
@@ -45,6 +45,11 @@ idleKeys now (e ∷ es) = cond (isIdle now (e .seen)) (e .key ∷ idleKeys now e
 abbrev pub staying : ℕ → List Entry → List Entry
 staying now [] = []
 staying now (e ∷ es) = cond (isIdle now (e .seen)) (staying now es) (e ∷ staying now es)
+
+-- the oldest tick of those that stay, or o, if that is older
+abbrev pub oldestOf : ℕ → ℕ → List Entry → ℕ
+oldestOf now o [] = o
+oldestOf now o (e ∷ es) = oldestOf now (cond (isIdle now (e .seen)) o (min o (e .seen))) es
 
 -- what an hour without packets leaves of a session
 abbrev pub lapsed : ℕ → Option ℕ → Option ℕ

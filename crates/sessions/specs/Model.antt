@@ -15,12 +15,14 @@ use Rattle.std.specs.declared.option.Option.{Option}
 use Rattle.std.specs.declared.option.Option.the-variants.{Some, None}
 use Rattle.std.specs.declared.result.Result.{Result}
 use Rattle.std.specs.declared.result.Result.the-variants.{Ok, Err}
+use Rattle.std.specs.declared.vec.Vec.{Vec}
+use Rattle.std.specs.declared.alloc.Global.{Global}
 use Rattle.std.specs.shelf.Maps.{update}
 use Rattle.sessions.specs.declared.key.Key.{Key}
 use Rattle.sessions.specs.declared.entry.Entry.{Entry}
 use Rattle.sessions.specs.declared.store.Sessions.{Sessions}
 use Rattle.sessions.specs.Keys.{sameKey, inPlace}
-use Rattle.sessions.specs.Entries.{seenIn, countIn}
+use Rattle.sessions.specs.Entries.{seenIn, countIn, idleKeys, staying, lapsed}
 use Rattle.sessions.specs.Slots.{flat}
 
 -- the open sessions, slot after slot
@@ -68,3 +70,13 @@ abbrev pub Opening : Key → ℕ → List Entry → List Entry → Result (Unit 
 Opening k t was after (Ok u) = Changed was after k (Some t) × ((isSome (seenIn k was) ≡ true) ⊎ (length was < most))
 Opening k t was after (Err Memory) = (seenIn k was ≡ None) × (length was < most) × (after ≡ was)
 Opening k t was after (Err (Of f)) = (f ≡ ServerFull) × (seenIn k was ≡ None) × (length was ≡ most) × (after ≡ was)
+
+-- closing what is idle at the tick t: the idle ones are named, in their order, and gone; the others stay as they are
+pub record Lapsed (t : ℕ) (was after : List Entry) (names : List Key) : Type 0 where
+  pub named : names ≡ idleKeys t was
+  pub rest : after ≡ staying t was
+  pub found : (q : Key) → seenIn q after ≡ lapsed t (seenIn q was)
+
+abbrev pub Lapsing : ℕ → List Entry → List Entry → Result (Vec Key Global) Error → Type 0
+Lapsing t was after (Ok names) = Lapsed t was after (vec-items names)
+Lapsing t was after (Err e) = (e ≡ Memory) × (after ≡ was)

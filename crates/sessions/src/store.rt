@@ -5,6 +5,7 @@ ghost use Rattle.sessions.specs.Kept.{InSlots, Numbered, Listed, Tallied, None
 use super::entry::Entry;
 use super::tally::Tally;
 
+pub mod idle;
 pub mod ops;
 
 // A hash table of sessions, and a tally of the open ones for each place.
