@@ -40,7 +40,7 @@ pub nothing : (k : Key) (es : List Entry) → seenIn k es ≡ None → Changed e
 nothing k es n = record {
   found = λ q. elim (cases-bool (sameKey q k)) [ inl y ↦ rw (y, same-eq q k y) n | inr m ↦ rw m ];
   counts = λ b p. rw n;
-  size = rw n
+  size = rw n;
 }
 
 noted-by : (k : Key) (t : ℕ) (es : List Entry) (o : Option ℕ) → seenIn k es ≡ o → Changed es (noted k t es) k (touched t o)
@@ -48,7 +48,7 @@ noted-by k t es None e = rw (noted-miss k t es e) (nothing k es e)
 noted-by k t es (Some s) e = record {
   found = λ q. seen-noted q k s t es e;
   counts = λ b p. rw (e, count-noted b p k t es);
-  size = rw (e, length-noted k t es)
+  size = rw (e, length-noted k t es);
 }
 
 pub noted-slot : (k : Key) (t : ℕ) (es : List Entry) → Changed es (noted k t es) k (touched t (seenIn k es))
@@ -59,7 +59,7 @@ without-by k es None u e = rw (without-miss k es e) (nothing k es e)
 without-by k es (Some s) u e = record {
   found = λ q. seen-without q k es u;
   counts = λ b p. rw e (let c = count-without b p k s es e in cond-none (inPlace b p k) _ _ (omega arith));
-  size = rw e (omega (arith, length-without k s es e))
+  size = rw e (omega (arith, length-without k s es e));
 }
 
 pub without-slot : (k : Key) (es : List Entry) → Once es → Changed es (without k es) k None
@@ -69,7 +69,7 @@ pub push-slot : (k : Key) (t : ℕ) (es : List Entry) → seenIn k es ≡ None �
 push-slot k t es n = record {
   found = λ q. seen-push q k t es n;
   counts = λ b p. rw n (let c = sumBy-push (λ e. cond (inPlace b p (e .key)) 1 0) es (record { key = k; seen = t }) in cond-some (inPlace b p k) _ _ (omega arith));
-  size = rw n (omega (arith, length-push es (record { key = k; seen = t })))
+  size = rw n (omega (arith, length-push es (record { key = k; seen = t })));
 }
 
 -- at all slots
@@ -85,7 +85,7 @@ changed-all ss s k w t l f c =
     record {
       found = λ q. seen-set ss s k w t t′ h (c .found) q;
       counts = λ b p. rw e (omega (arith, count-set-slot b p ss (slotOf k) s h, c .counts b p));
-      size = rw e (omega (arith, length-set-slot ss (slotOf k) s h, c .size))
+      size = rw e (omega (arith, length-set-slot ss (slotOf k) s h, c .size));
     }
 
 -- what the tallies have to be after the change
@@ -98,10 +98,19 @@ pub changed-holds : (ss : List (List Entry)) (s : List Entry) (ts ts′ : List (
 changed-holds ss s ts ts′ n n′ o o′ k w hold f c a le l r m few =
     let t = tidy-in 0 ss (hold .0 .1) in
     let all = changed-all ss s k w t (hold .0 .0) f c in
-    let old = fresh-in o (flat ss) (hold .1 .1 .1 .1 .0) in
-    ( (length-set ss (slotOf k) s ∙ hold .0 .0, tidy-out 0 (set ss (slotOf k) s) (tidy-here ss s k t f))
-    , ((omega (arith, all .size, hold .1 .0 .0), few)
-    , (l
-    , ((λ b p h. omega (arith, r b p h, all .counts b p, hold .1 .1 .1 .0 b p h))
-    , (fresh-out o′ (flat (set ss (slotOf k) s)) (all-flat-set (λ e. o′ ≤ e .seen) ss (slotOf k) s a (all-weaker (λ e. o ≤ e .seen) (λ e. o′ ≤ e .seen) (λ e x. omega arith) (flat ss) old))
-    , tt)))))
+    let old = fresh-in o (flat ss) (hold .1 .1 .1 .1 .0) in (
+      (length-set ss (slotOf k) s ∙ hold .0 .0, tidy-out 0 (set ss (slotOf k) s) (tidy-here ss s k t f)),
+      (
+        (omega (arith, all .size, hold .1 .0 .0), few),
+        (
+          l,
+          (
+            (λ b p h. omega (arith, r b p h, all .counts b p, hold .1 .1 .1 .0 b p h)),
+            (
+              fresh-out o′ (flat (set ss (slotOf k) s)) (all-flat-set (λ e. o′ ≤ e .seen) ss (slotOf k) s a (all-weaker (λ e. o ≤ e .seen) (λ e. o′ ≤ e .seen) (λ e x. omega arith) (flat ss) old)),
+              tt,
+            ),
+          ),
+        ),
+      ),
+    )

@@ -1,13 +1,13 @@
 -- Closing the idle sessions of a store. Assumes nothing.
+use mathlib.Core.Bool.{false}
 use mathlib.Core.List.{List, []}
 use mathlib.Core.Path.{_≡_, refl, sym, ap, _∙_}
-use native.Mathlib.Omega.{arith}
-use Prim.Native.Nat.{ℕ, _-_, _<_, _≤_}
+use Prim.Native.Nat.{ℕ}
 use Rattle.std.specs.Iters.{folded}
 use Rattle.sessions.specs.declared.key.Key.{Key}
 use Rattle.sessions.specs.declared.entry.Entry.{Entry}
 use Rattle.sessions.specs.declared.store.Sessions.{Sessions}
-use Rattle.sessions.specs.Entries.{seenIn, Once, without, idleKeys, staying, oldestOf}
+use Rattle.sessions.specs.Entries.{seenIn, Once, without, isIdle, idleKeys, staying, oldestOf}
 use Rattle.sessions.specs.Slots.{flat}
 use Rattle.sessions.specs.Model.{entriesOf, Lapsed}
 use Rattle.sessions.proofs.Files.{Fresh, tidy-in, fresh-in, fresh-out, once-flat}
@@ -26,7 +26,7 @@ aged : (s : Sessions) → Fresh (s .oldest) (entriesOf s)
 unfolding entriesOf
 aged s = fresh-in (s .oldest) (flat (slotsOf s)) (s .ages)
 
-pub idle-none : (t : ℕ) (s : Sessions) (names : List Key) → t - s .oldest < 921600 → names ≡ [] → Lapsed t (entriesOf s) (entriesOf s) names
+pub idle-none : (t : ℕ) (s : Sessions) (names : List Key) → isIdle t (s .oldest) ≡ false → names ≡ [] → Lapsed t (entriesOf s) (entriesOf s) names
 idle-none t s names h n =
     lapsed-to t s (entriesOf s) names (n ∙ sym (fresh-keys t (s .oldest) (entriesOf s) h (aged s))) (sym (fresh-stay t (s .oldest) (entriesOf s) h (aged s)))
 

@@ -8,7 +8,7 @@ use Prim.Native.Nat.{ℕ, zero, suc, _+_, _-_, _<_, _≤_, min}
 use lib.Dec.{leb}
 use lib.ListN.{length, getD, drop, take}
 use Rattle.std.proofs.shelf.Lists.{drop-more, append-nil}
-use Rattle.std.proofs.shelf.Tests.{cases-bool, lt-leb, le-leb, cond-true, cond-false}
+use Rattle.std.proofs.shelf.Tests.{cases-bool, lt-leb, leb-false, cond-true, cond-false}
 use Rattle.std.proofs.shelf.Elements.{all-weaker}
 use Rattle.std.specs.Iters.{folded}
 use Rattle.std.specs.Of.Vec.{vec-items}
@@ -25,12 +25,9 @@ use Rattle.sessions.specs.Slots.{flat}
 use Rattle.sessions.proofs.Same.{same-eq, same-refl, same-flip}
 use Rattle.sessions.proofs.Files.{Fresh}
 
--- the test of the code
-pub idle-yes : (now t : ℕ) → 921600 ≤ now - t → isIdle now t ≡ true
-idle-yes now t h = le-leb (t + 921600) now (omega arith)
-
-pub idle-no : (now t : ℕ) → now - t < 921600 → isIdle now t ≡ false
-idle-no now t h = lt-leb (t + 921600) now (omega arith)
+-- what is younger than the oldest is not idle, if the oldest is not
+younger : (now o t : ℕ) → isIdle now o ≡ false → o ≤ t → isIdle now t ≡ false
+younger now o t n h = lt-leb (t + 921600) now (omega (arith, leb-false (o + 921600) now n))
 
 -- a walk, entry by entry and list by list
 pub keys-append : (now : ℕ) (xs ys : List Entry) → idleKeys now (xs ++ ys) ≡ idleKeys now xs ++ idleKeys now ys
@@ -55,13 +52,13 @@ oldest-fresh now o (e ∷ es) =
     ]
 
 -- nothing is idle as long as the oldest is not
-pub fresh-keys : (now o : ℕ) (es : List Entry) → now - o < 921600 → Fresh o es → idleKeys now es ≡ []
+pub fresh-keys : (now o : ℕ) (es : List Entry) → isIdle now o ≡ false → Fresh o es → idleKeys now es ≡ []
 fresh-keys now o [] h f = refl
-fresh-keys now o (e ∷ es) h f = rw (idle-no now (e .seen) (omega (arith, f .0))) (fresh-keys now o es h (f .1))
+fresh-keys now o (e ∷ es) h f = rw (younger now o (e .seen) h (f .0)) (fresh-keys now o es h (f .1))
 
-pub fresh-stay : (now o : ℕ) (es : List Entry) → now - o < 921600 → Fresh o es → staying now es ≡ es
+pub fresh-stay : (now o : ℕ) (es : List Entry) → isIdle now o ≡ false → Fresh o es → staying now es ≡ es
 fresh-stay now o [] h f = refl
-fresh-stay now o (e ∷ es) h f = rw (idle-no now (e .seen) (omega (arith, f .0))) (ap (λ r. e ∷ r) (fresh-stay now o es h (f .1)))
+fresh-stay now o (e ∷ es) h f = rw (younger now o (e .seen) h (f .0)) (ap (λ r. e ∷ r) (fresh-stay now o es h (f .1)))
 
 -- what is found afterwards
 none-stays : (now : ℕ) (q : Key) (es : List Entry) → seenIn q es ≡ None → seenIn q (staying now es) ≡ None

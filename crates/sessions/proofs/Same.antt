@@ -46,5 +46,8 @@ weigh-below part weight sum = omega arith
 
 pub slot-below : (k : Key) → slotOf k < 65536
 unfolding slotOf
-slot-below k = omega (arith, weigh-below (k .bucket * 256 + protocolNumber (k .flow .protocol)) 0xe703_7ed1_a0b4_28db (weigh (k .place) 0xa076_1d64_78bd_642f
-    (weigh (k .flow .sport * 65536 + k .flow .dport) 0xd6e8_feb8_6659_fd93 (weigh (k .flow .dst) 0xc2b2_ae3d_27d4_eb4f (weigh (k .flow .src) 0x9e37_79b9_7f4a_7c15 0)))))
+slot-below k = omega (
+  arith,
+  weigh-below (k .bucket * 256 + protocolNumber (k .flow .protocol)) 0xe703_7ed1_a0b4_28db (weigh (k .place) 0xa076_1d64_78bd_642f
+      (weigh (k .flow .sport * 65536 + k .flow .dport) 0xd6e8_feb8_6659_fd93 (weigh (k .flow .dst) 0xc2b2_ae3d_27d4_eb4f (weigh (k .flow .src) 0x9e37_79b9_7f4a_7c15 0)))),
+)

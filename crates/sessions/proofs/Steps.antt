@@ -94,7 +94,7 @@ step-list : (s : Sessions) (k : Key) (w : Option ℕ) (es : List Entry) (ts : Li
     → Step s k w (set (slotsOf s) (slotOf k) es) ts n o
 step-list s k w es ts n o f c a le l r m few = record {
   hold = changed-holds (slotsOf s) es (talliesOf s) ts (s .len) n (s .oldest) o k w (holds s) f c a le l r m few;
-  change = changed-all (slotsOf s) es k w (tidy-in 0 (slotsOf s) (s .filing .1)) (s .filing .0) f c
+  change = changed-all (slotsOf s) es k w (tidy-in 0 (slotsOf s) (s .filing .1)) (s .filing .0) f c;
 }
 
 step-moved : (s : Sessions) (k : Key) (w : Option ℕ) (ss ss′ : List (List Entry)) (ts ts′ : List (List Tally)) (n o : ℕ) → ss′ ≡ ss → ts′ ≡ ts → Step s k w ss ts n o → Step s k w ss′ ts′ n o
@@ -178,8 +178,8 @@ close-step s k t i j v v′ u u′ e is g h js b gu low =
     let ts = set (talliesOf s) (k .bucket) (vec-items u′) in
     let l = s .lists in
     let r : Retallied (talliesOf s) ts k (seenIn k (flat (slotsOf s))) None =
-        rw e (retallied (talliesOf s) (vec-items u′) k (Some t) None (omega arith)
-        (λ p. lowered-at _ _ (eqb (k .place) p) (low p ∙ ap (λ x. talliedIn p x - cond (eqb (k .place) p) 1 0) (bucket-at s j u b gu ∙ ap (λ x. getD (talliesOf s) x []) js)) (λ y. rw (sym (eqb-true (k .place) p y)) (place-has s k t (omega arith) e)))) in
+    rw e (retallied (talliesOf s) (vec-items u′) k (Some t) None (omega arith)
+    (λ p. lowered-at _ _ (eqb (k .place) p) (low p ∙ ap (λ x. talliedIn p x - cond (eqb (k .place) p) 1 0) (bucket-at s j u b gu ∙ ap (λ x. getD (talliesOf s) x []) js)) (λ y. rw (sym (eqb-true (k .place) p y)) (place-has s k t (omega arith) e)))) in
     step-moved s k None _ _ _ _ (s .len - 1) (s .oldest) (slots-after s k i v v′ (without k) is g h) (tallies-after s j u′ ∙ ap (λ x. set (talliesOf s) x (vec-items u′)) js)
     (step-list s k None es ts (s .len - 1) (s .oldest) (all-without (λ x. slotOf (x .key) ≡ slotOf k) k (home s k) (f .0), once-without k (home s k) (f .1)) (without-slot k (home s k) (f .1))
     (all-without (λ x. s .oldest ≤ x .seen) k (home s k) (home-fresh s k (s .oldest) (omega arith))) (omega arith) (length-set (talliesOf s) (k .bucket) (vec-items u′) ∙ l) r
@@ -234,8 +234,8 @@ add-step s k t o i j v v′ u u′ e few is g h js b gu up m =
     let ts = set (talliesOf s) (k .bucket) (vec-items u′) in
     let l = s .lists in
     let r : Retallied (talliesOf s) ts k (seenIn k (flat (slotsOf s))) (Some t) =
-        rw e (retallied (talliesOf s) (vec-items u′) k None (Some t) (omega arith)
-        (λ p. raised-at _ _ (eqb (k .place) p) (up p ∙ ap (λ y. talliedIn p y + cond (eqb (k .place) p) 1 0) (bucket-at s j u b gu ∙ ap (λ y. getD (talliesOf s) y []) js)))) in
+    rw e (retallied (talliesOf s) (vec-items u′) k None (Some t) (omega arith)
+    (λ p. raised-at _ _ (eqb (k .place) p) (up p ∙ ap (λ y. talliedIn p y + cond (eqb (k .place) p) 1 0) (bucket-at s j u b gu ∙ ap (λ y. getD (talliesOf s) y []) js)))) in
     step-moved s k (Some t) _ _ _ _ (s .len + 1) o (slots-after s k i v v′ (λ ys. ys ++ x ∷ []) is g h) (tallies-after s j u′ ∙ ap (λ y. set (talliesOf s) y (vec-items u′)) js)
     (step-list s k (Some t) es ts (s .len + 1) o (all-push (λ y. slotOf (y .key) ≡ slotOf k) (home s k) x (f .0) refl, once-push k t (home s k) (f .1) n) (push-slot k t (home s k) n)
     (all-push (λ y. o ≤ y .seen) (home s k) x (home-fresh s k o (omega arith)) (omega arith)) (omega arith) (length-set (talliesOf s) (k .bucket) (vec-items u′) ∙ l) r
@@ -260,8 +260,8 @@ undone-holds s k j ss u u′ w w′ e js b g up gw low =
     let same : w ≡ u′ = gw ∙ getD-set-same (vec-items (s .tallies)) j u′ w h in
     let l = s .lists in
     let r : Retallied (talliesOf s) ts k None None = retallied (talliesOf s) (vec-items w′) k None None (omega arith)
-        (λ p. undone-at _ _ _ (eqb (k .place) p) (low p) (ap (λ y. talliedIn p (vec-items y)) same ∙ (up p ∙ ap (λ y. talliedIn p y + cond (eqb (k .place) p) 1 0) (bucket-at s j u b g ∙ ap (λ y. getD (talliesOf s) y []) js)))) in
+    (λ p. undone-at _ _ _ (eqb (k .place) p) (low p) (ap (λ y. talliedIn p (vec-items y)) same ∙ (up p ∙ ap (λ y. talliedIn p y + cond (eqb (k .place) p) 1 0) (bucket-at s j u b g ∙ ap (λ y. getD (talliesOf s) y []) js)))) in
     let z : map vec-items (set (set (vec-items (s .tallies)) j u′) j w′) ≡ ts =
-        ap (map vec-items) (set-set (vec-items (s .tallies)) j u′ w′) ∙ (tallies-after s j w′ ∙ ap (λ y. set (talliesOf s) y (vec-items w′)) js) in
+    ap (map vec-items) (set-set (vec-items (s .tallies)) j u′ w′) ∙ (tallies-after s j w′ ∙ ap (λ y. set (talliesOf s) y (vec-items w′)) js) in
     rw (e, z)
     (s .filing, (s .number, (length-set (talliesOf s) (k .bucket) (vec-items w′) ∙ l, ((λ x p y. zeros (inPlace x p k) _ _ (r x p y) ∙ s .places x p y), (s .ages, tt)))))

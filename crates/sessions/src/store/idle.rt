@@ -4,7 +4,7 @@ ghost use mathlib.Core.Path.{_≡_};
 ghost use Rattle.std.specs.Iters.{folded};
 ghost use Rattle.std.specs.Of.Vec.{vec-items};
 ghost use Rattle.std.specs.Vec.{made};
-ghost use Rattle.sessions.specs.Entries.{idleKeys, oldestOf, without};
+ghost use Rattle.sessions.specs.Entries.{isIdle, idleKeys, oldestOf, without};
 ghost use Rattle.sessions.specs.Model.{entriesOf, Lapsing};
 ghost use Rattle.sessions.specs.Slots.{flat};
 use super::super::entry::Entry;
@@ -18,13 +18,25 @@ use std::alloc::Global;
 // An hour in ticks.
 const HOUR: u64 = 921_600;
 
+// Has an hour passed at the tick since the last packet? No sum is made, so none can wrap.
+fn is_idle(seen: u64, tick: u64) -> bool
+    ensures { λ r. ⌜ r ≡ isIdle tick seen ⌝ }
+{
+    tick.saturating_sub(seen) >= HOUR
+}
+
 // Puts the idle sessions of one slot at the end of `names`; the answer is the oldest tick of the others and `oldest`.
-fn scan_slot(entries: &[Entry], tick: u64, oldest: u64, names: &mut Vec<Key>) -> Result<u64, AllocError>
+fn scan_slot(
+    entries: &[Entry],
+    tick: u64,
+    oldest: u64,
+    names: &mut Vec<Key>,
+) -> Result<u64, AllocError>
     ensures { λ r. ⌜ made r (λ o. (vec-items (now (names .exit)) ≡ vec-items (now (names .entry)) ++ idleKeys tick (now (entries .entry))) × (o ≡ oldestOf tick oldest (now (entries .entry)))) ⌝ }
 {
     let mut least = oldest;
     for e in entries {
-        if tick.saturating_sub(e.seen) >= HOUR {
+        if is_idle(e.seen, tick) {
             names.push(e.key)?;
         } else {
             least = least.min(e.seen);
@@ -51,7 +63,7 @@ impl Sessions {
         ensures { λ r. ⌜ Lapsing tick (entriesOf (now (self .entry))) (entriesOf (now (self .exit))) r ⌝ }
     {
         let mut names = Vec::new(heap);
-        if tick.saturating_sub(self.oldest) < HOUR {
+        if !is_idle(self.oldest, tick) {
             return Ok(names);
         }
         let oldest = scan(self.slots.as_slice(), tick, &mut names)?;

@@ -10,7 +10,7 @@ returns-in-Some c =
     let m = rw (c .as-slice .ensures .value) at (c .in-Some .ensures tt) in
     record {
       found = sym (ap isSome (seen-hit (c .args .key .now) (vec-items (c .args .entries .now)) (c .in-Some .i) m (record { key = c .args .key .now; seen = 0 })));
-      after = c .remove .ensures .items ∙ without-hit (c .args .key .now) (vec-items (c .args .entries .now)) (c .in-Some .i) m
+      after = c .remove .ensures .items ∙ without-hit (c .args .key .now) (vec-items (c .args .entries .now)) (c .in-Some .i) m;
     }
 
 pub returns-in-None : need.returns-in-None

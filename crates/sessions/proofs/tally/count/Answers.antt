@@ -13,8 +13,13 @@ use Rattle.sessions.proofs.tally.count.Needs.{then-t-place, else-t-place}
 pub add-sum : need.add-sum
 add-sum c =
     let t = getD (c .args .tallies .now) (c .loop-t .t-index) (record { place = 0; count = 0 }) in
-    omega (arith, c .loop-t .inv, sumBy-more (tallyOf (c .args .place)) (c .args .tallies .now) (c .loop-t .t-index) (record { place = 0; count = 0 }) (omega arith),
-    sumBy-take-le (tallyOf (c .args .place)) (c .args .tallies .now) (c .loop-t .t-index + 1), tally-here (c .args .place) t (c .if-t-place .taken))
+    omega (
+      arith,
+      c .loop-t .inv,
+      sumBy-more (tallyOf (c .args .place)) (c .args .tallies .now) (c .loop-t .t-index) (record { place = 0; count = 0 }) (omega arith),
+      sumBy-take-le (tallyOf (c .args .place)) (c .args .tallies .now) (c .loop-t .t-index + 1),
+      tally-here (c .args .place) t (c .if-t-place .taken),
+    )
 
 pub loop-t-again : need.loop-t-again
 loop-t-again c =

@@ -72,5 +72,5 @@ returns c =
     record {
       answer = sym (ap isSome (o .1));
       change = taken (need.at·returns c .After-lower) .change;
-      rest = close-rest s k (o .0) (c .slot .result) (c .index-mut .result .now) (c .remove .last .entries) (o .1) (c .slot .ensures) (c .index-mut .ensures .value) (c .remove .ensures .after)
+      rest = close-rest s k (o .0) (c .slot .result) (c .index-mut .result .now) (c .remove .last .entries) (o .1) (c .slot .ensures) (c .index-mut .ensures .value) (c .remove .ensures .after);
     }

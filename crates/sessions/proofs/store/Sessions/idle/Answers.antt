@@ -1,7 +1,6 @@
 -- Nothing is idle as long as the oldest is not; else the names found are taken out, and the oldest of the others is the new bound.
 use mathlib.Core.List.{map, _++_}
-use mathlib.Core.Path.{_≡_, ap, _∙_}
-use native.Mathlib.Omega.{arith}
+use mathlib.Core.Path.{_≡_, sym, ap, _∙_}
 use Rattle.std.specs.Iters.{folded}
 use Rattle.std.specs.Of.Vec.{vec-items}
 use Rattle.sessions.specs.Entries.{idleKeys, oldestOf, without}
@@ -11,9 +10,9 @@ use Rattle.sessions.proofs.Idled.{idle-none, idle-done, idle-holds}
 use Rattle.sessions.proofs.store.Sessions.idle.Needs as need
 use Rattle.sessions.proofs.store.Sessions.idle.Needs.{After-close-all}
 
-pub returns-then-saturating-sub-lt-HOUR : need.returns-then-saturating-sub-lt-HOUR
-returns-then-saturating-sub-lt-HOUR c =
-    idle-none (c .args .tick) (c .args .self .now) (vec-items (c .new-names .result)) (omega (arith, c .saturating-sub .ensures)) (c .new-names .ensures .items)
+pub returns-then-not-is-idle : need.returns-then-not-is-idle
+returns-then-not-is-idle c =
+    idle-none (c .args .tick) (c .args .self .now) (vec-items (c .new-names .result)) (sym (c .if-not-is-idle .ensures tt)) (c .new-names .ensures .items)
 
 -- what the walk found
 names : (c : need.After-close-all) → vec-items (c .scan .last .names) ≡ idleKeys (c .args .tick) (entriesOf (c .args .self .now))

@@ -18,11 +18,11 @@ pub loop-i-again : need.loop-i-again
 loop-i-again c =
     let i = c .loop-i .inv in
     let e = c .in-Continue-push .ensures tt in
-    let f = c .in-Continue-push-2 .ensures tt in
-    ( omega (arith, i .0, e .len)
-    , omega (arith, i .1, f .len)
-    , empty-more (vec-items (c .loop-i .slots)) (vec-items (c .push .last .self)) (c .new .result) (e .items) (c .new .ensures .items) (i .2)
-    , empty-more (vec-items (c .loop-i .tallies)) (vec-items (c .push-in-loop-i .last .self)) (c .new-in-loop-i .result) (f .items) (c .new-in-loop-i .ensures .items) (i .3)
+    let f = c .in-Continue-push-2 .ensures tt in (
+      omega (arith, i .0, e .len),
+      omega (arith, i .1, f .len),
+      empty-more (vec-items (c .loop-i .slots)) (vec-items (c .push .last .self)) (c .new .result) (e .items) (c .new .ensures .items) (i .2),
+      empty-more (vec-items (c .loop-i .tallies)) (vec-items (c .push-in-loop-i .last .self)) (c .new-in-loop-i .result) (f .items) (c .new-in-loop-i .ensures .items) (i .3),
     )
 
 pub returns : need.returns

@@ -24,7 +24,7 @@ returns c =
     record {
       answer = found;
       change = touch-step s k (c .args .tick) (c .min-self .result) (c .slot .result) (c .index-mut .result .now) (c .note-found .last .entries) (c .slot .ensures) (c .index-mut .ensures .value)
-        (c .note-found .ensures .after) (c .min-self .ensures) .change;
+          (c .note-found .ensures .after) (c .min-self .ensures) .change;
       same = λ n. touch-same s k (c .args .tick) (c .slot .result) (c .index-mut .result .now) (c .note-found .last .entries) (c .slot .ensures) (c .index-mut .ensures .value)
-        (c .note-found .ensures .after) (sym found ∙ n)
+          (c .note-found .ensures .after) (sym found ∙ n);
     }
