@@ -99,7 +99,7 @@ all-without P k [] a = tt
 all-without P k (e ∷ es) a = let ih = all-without P k es (a .1) in grind arith
 
 -- how many there are
-count-cons : (b p : ℕ) (e : Entry) (es : List Entry) → countIn b p (e ∷ es) ≡ cond (inPlace b p (e .key)) 1 0 + countIn b p es
+pub count-cons : (b p : ℕ) (e : Entry) (es : List Entry) → countIn b p (e ∷ es) ≡ cond (inPlace b p (e .key)) 1 0 + countIn b p es
 count-cons b p e es = sumBy-cons (λ x. cond (inPlace b p (x .key)) 1 0) e es
 
 pub count-noted : (b p : ℕ) (k : Key) (t : ℕ) (es : List Entry) → countIn b p (noted k t es) ≡ countIn b p es

@@ -15,7 +15,7 @@ use Rattle.sessions.proofs.Stores.{Holds}
 use Rattle.sessions.proofs.Steps.{slotsOf, talliesOf, holds}
 use Rattle.sessions.proofs.Lapse.{fresh-keys, fresh-stay, seen-stays, taken-idle, oldest-fresh}
 
-once : (s : Sessions) → Once (entriesOf s)
+pub once : (s : Sessions) → Once (entriesOf s)
 unfolding entriesOf
 once s = once-flat 0 (slotsOf s) (tidy-in 0 (slotsOf s) (s .filing .1))
 

@@ -9,3 +9,4 @@ pub mod Steps
 pub mod Opened
 pub mod Lapse
 pub mod Idled
+pub mod Laws

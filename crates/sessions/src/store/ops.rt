@@ -5,8 +5,9 @@ ghost use Prim.Native.Nat.{_<_};
 ghost use Rattle.std.specs.Options.{isSome};
 ghost use Rattle.std.specs.Vec.{made};
 ghost use Rattle.std.specs.declared.option.Option.the-variants.{None};
+ghost use Rattle.sessions.specs.declared.store.Sessions.{Sessions as SessionsT};
 ghost use Rattle.sessions.specs.Entries.{without};
-ghost use Rattle.sessions.specs.Model.{entriesOf, at, countAt, total, touched, Changed, Opening, Adding};
+ghost use Rattle.sessions.specs.Model.{entriesOf, at, countAt, total, touched, Changed, Opening, Adding, Sound};
 use super::super::entry;
 use super::super::entry::Entry;
 use super::super::key::Key;
@@ -123,4 +124,11 @@ impl Sessions {
             }
         }
     }
+}
+
+// What holds of every store.
+pub fn sound() -> u8
+    ensures { λ _. ⌜ ((s : SessionsT) → Sound s) ⌝ }
+{
+    0
 }
