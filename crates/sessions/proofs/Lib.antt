@@ -1,0 +1,12 @@
+pub mod Same
+pub mod Lists
+pub mod Changes
+pub mod Files
+pub mod Sums
+pub mod Stores
+pub mod Changed
+pub mod Steps
+pub mod Opened
+pub mod Lapse
+pub mod Idled
+pub mod Laws
