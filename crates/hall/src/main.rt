@@ -1,6 +1,8 @@
-// Plays one bucket by a script from standard input, and prints what is seen.
+// Plays one bucket by a script from standard input, and the assignment of all buckets, and prints what is seen.
+mod houses;
 mod text;
 
+use crate::houses::Houses;
 use crate::text::EventText;
 use crate::text::EventTextDisplay;
 use crate::text::LinkText;
@@ -19,7 +21,8 @@ use stage::stage::Stage;
 use std::env;
 use std::error::AnyError;
 
-const HELP: &str = "hall: plays one bucket by a script on standard input
+const HELP: &str =
+    "hall: plays one bucket, and the assignment of all buckets to houses, by a script on standard input
 
   reset [HOUSES DOORS [ROOM]]  all begins anew: 3 houses, 2 doors, room for 65536 tables in each house
   packet DOOR FLOW [open]      a packet comes by a door; it may open a table, or not
@@ -31,6 +34,9 @@ const HELP: &str = "hall: plays one bucket by a script on standard input
   deliver K | lose K | repeat K   message K, on its way, is handled, lost, or on its way once more
   next | all                   the oldest on its way is handled; all are, oldest first
   show                         the row, the open tables, what each place and door knows, what is on its way
+  buckets N                    so many buckets, a power of two from 16 to 65536 (4096 at first), from nothing to the houses listed
+  house N ..                   the houses, in rising order: all buckets from nothing
+  add N | down N               a house comes, a house goes: who had and has how many, and which buckets change hands
   title TEXT | # REMARK        printed as they stand
 
 A bad line is answered with its number and the fault, and changes nothing.";
@@ -90,7 +96,13 @@ fn answer(rt: &LibcRuntime, number: u64, error: Error) -> Result<(), AnyError> {
     }
 }
 
-fn play_line(rt: &LibcRuntime, stage: &mut Stage, number: u64, line: &str) -> Result<(), AnyError> {
+fn play_line(
+    rt: &LibcRuntime,
+    stage: &mut Stage,
+    houses: &mut Houses,
+    number: u64,
+    line: &str,
+) -> Result<(), AnyError> {
     let command = match read_line(line) {
         Ok(Command::Nothing) => {
             println!(rt, "{line}")?;
@@ -108,6 +120,16 @@ fn play_line(rt: &LibcRuntime, stage: &mut Stage, number: u64, line: &str) -> Re
         }
     };
     println!(rt, "> {line}")?;
+    match command {
+        Command::Buckets { .. } | Command::Servers | Command::Add { .. } | Command::Remove { .. } =>
+            {
+                return match houses.play(rt.alloc(), command, line) {
+                    Ok(change) => change.print(rt),
+                    Err(error) => answer(rt, number, error),
+                };
+            }
+        _ => {}
+    }
     if let Err(error) = stage.play(command) {
         return answer(rt, number, error);
     }
@@ -124,11 +146,12 @@ fn play(rt: &LibcRuntime) -> Result<(), AnyError> {
     let Ok(mut stage) = Stage::new(rt.alloc(), 3, 2, 65_536) else {
         return Err("no memory".into());
     };
+    let mut houses = Houses::new();
     let mut number = 0u64;
     for line in rt.lines(rt.alloc()) {
         let line = line?;
         number = number.wrapping_add(1);
-        play_line(rt, &mut stage, number, line.as_str())?;
+        play_line(rt, &mut stage, &mut houses, number, line.as_str())?;
     }
     Ok(())
 }

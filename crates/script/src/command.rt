@@ -43,5 +43,22 @@ pub enum Command {
     // The oldest message on its way is handled; and the same until nothing is on its way.
     Next,
     All,
+    // So many ticks pass.
+    Ticks {
+        count: u32,
+    },
+    // So many buckets are assigned.
+    Buckets {
+        buckets: u32,
+    },
+    // All buckets are assigned from nothing to the servers that the line lists.
+    Servers,
+    // A server comes, a server goes.
+    Add {
+        server: u8,
+    },
+    Remove {
+        server: u8,
+    },
     Show,
 }

@@ -1,8 +1,12 @@
 // A line of the script to its command.
 use crate::command::Command;
 use crate::flow_text::read_flow;
+use fault::Error;
+use fault::ErrorFromFault;
+use fault::ErrorFromRefused;
 use fault::Fault;
 use flow::key::FlowKey;
+use std::alloc::Global;
 
 // Without numbers of its own, `reset` means these.
 const SERVERS: u8 = 3;
@@ -23,6 +27,9 @@ pub fn read_line(line: &str) -> Result<Command, Fault> {
     if word == "title" {
         return Ok(Command::Title);
     }
+    if word == "house" {
+        return Ok(Command::Servers);
+    }
     let rest = (words.next(), words.next(), words.next());
     if words.next().is_some() {
         return Err(Fault::Malformed);
@@ -32,6 +39,17 @@ pub fn read_line(line: &str) -> Result<Command, Fault> {
         (Some(only), None, _) => read_one(word, only),
         (Some(first), Some(second), third) => read_more(word, first, second, third),
     }
+}
+
+// The servers that a line lists after its first word.
+pub fn read_servers(heap: Global, line: &str) -> Result<Vec<u8>, Error> {
+    let mut servers = Vec::new(heap);
+    let mut words = line.split_whitespace();
+    words.next();
+    for word in words {
+        servers.push(read_small(word)?)?;
+    }
+    Ok(servers)
 }
 
 // A word alone.
@@ -55,6 +73,18 @@ fn read_bare(word: &str) -> Result<Command, Fault> {
 fn read_one(word: &str, only: &str) -> Result<Command, Fault> {
     match word {
         "change" => Ok(Command::Change {
+            server: read_small(only)?,
+        }),
+        "ticks" => Ok(Command::Ticks {
+            count: read_number(only)?,
+        }),
+        "buckets" => Ok(Command::Buckets {
+            buckets: read_number(only)?,
+        }),
+        "add" => Ok(Command::Add {
+            server: read_small(only)?,
+        }),
+        "down" => Ok(Command::Remove {
             server: read_small(only)?,
         }),
         "close" => Ok(Command::Close {

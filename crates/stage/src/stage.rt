@@ -156,7 +156,14 @@ impl Stage {
                 balancers,
                 room,
             } => self.reset(servers, balancers, room)?,
-            Command::Nothing | Command::Title | Command::Show => {}
+            Command::Nothing
+            | Command::Title
+            | Command::Show
+            | Command::Ticks { .. }
+            | Command::Buckets { .. }
+            | Command::Servers
+            | Command::Add { .. }
+            | Command::Remove { .. } => {}
         }
         Ok(())
     }
