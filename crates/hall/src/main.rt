@@ -34,6 +34,7 @@ const HELP: &str =
   deliver K | lose K | repeat K   message K, on its way, is handled, lost, or on its way once more
   next | all                   the oldest on its way is handled; all are, oldest first
   show                         the row, the open tables, what each place and door knows, what is on its way
+  ticks N                      N ticks pass, 256 in a second; tables without a packet for an hour, 921600 ticks, are closed
   buckets N                    so many buckets, a power of two from 16 to 65536 (4096 at first), from nothing to the houses listed
   house N ..                   the houses, in rising order: all buckets from nothing
   add N | down N               a house comes, a house goes: who had and has how many, and which buckets change hands

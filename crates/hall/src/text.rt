@@ -212,6 +212,12 @@ pub impl fmt::Display for EventText as EventTextDisplay {
                 FlowText(flow),
                 LinkText(at)
             ),
+            Event::Idle { at, flow } => write!(
+                f,
+                "closed {} at {}, an hour without a packet",
+                FlowText(flow),
+                LinkText(at)
+            ),
             Event::NotOpen => f.write_str("no such table is open"),
             Event::Forgotten { place } => write!(f, "{} is forgotten", LinkText(place)),
             Event::NothingForgotten => f.write_str("no place may be forgotten now"),

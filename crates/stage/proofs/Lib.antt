@@ -1,3 +1,4 @@
 pub mod Found
 pub mod Passed
 pub mod Counted
+pub mod Idled

@@ -1,6 +1,7 @@
 -- The machines of one bucket and what is on its way between them, and that a fault changes none of it. Assumes nothing.
 use mathlib.Core.List.{List}
 use mathlib.Core.Path.{_≡_}
+use Prim.Native.Nat.{ℕ}
 use Rattle.std.specs.Of.Vec.{vec-items}
 use Rattle.std.specs.declared.option.Option.{Option}
 use Rattle.std.specs.declared.result.Result.{Result}
@@ -11,6 +12,7 @@ use Rattle.chain.specs.declared.way.Link.{Link}
 use Rattle.chain.specs.declared.place.Place.{Place}
 use Rattle.chain.specs.Controllers.{Control}
 use Rattle.chain.specs.Kept.{control}
+use Rattle.sessions.specs.Clocks.{ticksOf}
 use Rattle.stage.specs.declared.message.Message.{Message}
 use Rattle.stage.specs.declared.session.Session.{Session}
 use Rattle.stage.specs.declared.stage.Notice.{Notice}
@@ -26,6 +28,7 @@ pub record Machines : Type 0 where
   pub still-told : List (Option Link)
   pub controls : Control
   pub on-way : List Message
+  pub ticks : ℕ
 
 abbrev pub machines : Stage → Machines
 machines s =
@@ -37,6 +40,7 @@ machines s =
       still-told = vec-items (s .telling);
       controls = control (s .chain);
       on-way = onWay (s .post);
+      ticks = ticksOf (s .clock);
     }
 
 -- of the answer, and the machines before and after: a fault has changed nothing; want of memory may stop half way

@@ -12,6 +12,7 @@ use Rattle.chain.specs.declared.way.Link.{Link}
 use Rattle.chain.specs.declared.place.Entry.{Entry}
 use Rattle.chain.specs.declared.place.Entry.the-variants.{Open, Vacant, Full}
 use Rattle.chain.specs.Ways.{sameLink}
+use Rattle.sessions.specs.Entries.{isIdle}
 use Rattle.stage.specs.declared.session.Session.{Session}
 use Rattle.stage.specs.declared.session.Sessions.{Sessions}
 
@@ -39,3 +40,8 @@ entryAt most a f ss = cond (openAt a f ss) Open (cond (ltb (countAt (a .server) 
 abbrev pub emptyAt : Link → List Session → Bool
 emptyAt a [] = true
 emptyAt a (s ∷ ss) = cond (sameLink (s .at) a) false (emptyAt a ss)
+
+-- the first that had no packet for an hour
+abbrev pub firstIdle : ℕ → List Session → Option Session
+firstIdle tick [] = None
+firstIdle tick (s ∷ ss) = cond (isIdle tick (s .seen)) (Some s) (firstIdle tick ss)

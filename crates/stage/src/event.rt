@@ -36,6 +36,11 @@ pub enum Event {
         at: Link,
         flow: FlowKey,
     },
+    // Closed after an hour without a packet.
+    Idle {
+        at: Link,
+        flow: FlowKey,
+    },
     NotOpen,
     Forgotten {
         place: Link,

@@ -2,10 +2,11 @@
 ghost use mathlib.Core.List.{[], _∷_, _++_};
 ghost use mathlib.Core.Path.{_≡_};
 ghost use Rattle.std.specs.Results.{Cases};
-ghost use Rattle.stage.specs.Opened.{opened, isOf, openAt, countAt, entryAt, emptyAt};
+ghost use Rattle.stage.specs.Opened.{opened, isOf, openAt, countAt, entryAt, emptyAt, firstIdle};
 use chain::place::Entry;
 use chain::way::Link;
 use flow::key::FlowKey;
+use sessions::store::idle::is_idle;
 use std::alloc::Global;
 use std::alloc::Refused;
 
@@ -13,6 +14,8 @@ use std::alloc::Refused;
 pub struct Session {
     pub at: Link,
     pub flow: FlowKey,
+    // The tick of its last packet.
+    pub seen: u64,
 }
 
 impl Session {
@@ -101,10 +104,35 @@ impl Sessions {
         true
     }
 
-    pub fn open(&mut self, at: Link, flow: FlowKey) -> Result<(), Refused<Session>>
-        ensures { λ r. ⌜ Cases r (λ _. opened (now (self .exit)) ≡ opened (now (self .entry)) ++ record { at = at; flow = flow } ∷ []) (λ _. opened (now (self .exit)) ≡ opened (now (self .entry))) ⌝ }
+    pub fn open(&mut self, at: Link, flow: FlowKey, tick: u64) -> Result<(), Refused<Session>>
+        ensures { λ r. ⌜ Cases r (λ _. opened (now (self .exit)) ≡ opened (now (self .entry)) ++ record { at = at; flow = flow; seen = tick } ∷ []) (λ _. opened (now (self .exit)) ≡ opened (now (self .entry))) ⌝ }
     {
-        self.open.push(Session { at, flow })
+        self.open.push(Session {
+            at,
+            flow,
+            seen: tick,
+        })
+    }
+
+    // A packet came to the session at this tick.
+    pub fn touch(&mut self, at: Link, flow: FlowKey, tick: u64) {
+        for session in self.open.iter_mut() {
+            if session.is(at, flow) {
+                session.seen = tick;
+            }
+        }
+    }
+
+    // The first that had no packet for an hour at this tick.
+    pub fn first_idle(&self, tick: u64) -> Option<Session>
+        ensures { λ r. ⌜ r ≡ firstIdle tick (opened (now (self .entry))) ⌝ }
+    {
+        for session in self.open.as_slice() {
+            if is_idle(session.seen, tick) {
+                return Some(*session);
+            }
+        }
+        None
     }
 
     // Where it was open, if it was.

@@ -19,6 +19,7 @@ use fault::ErrorFromRefused;
 use fault::Fault;
 use flow::key::FlowKey;
 use script::command::Command;
+use sessions::clock::Clock;
 use std::alloc::AllocError;
 use std::alloc::Global;
 
@@ -50,6 +51,8 @@ pub struct Stage {
     telling: Vec<Option<Link>>,
     chain: Chain,
     post: Post,
+    // One for all machines.
+    clock: Clock,
     // What was seen of the last command.
     seen: Vec<Event>,
 }
@@ -65,6 +68,7 @@ impl Stage {
             telling: Vec::new(heap),
             chain: Chain::new(0),
             post: Post::new(heap),
+            clock: Clock::new(),
             seen: Vec::new(heap),
         };
         stage.reset(servers, balancers, room)?;
@@ -84,6 +88,7 @@ impl Stage {
         self.sessions.reset(room);
         self.notices.clear();
         self.post.clear();
+        self.clock = Clock::new();
         let first = self.chain.newest();
         self.places
             .push(Place {
@@ -151,6 +156,7 @@ impl Stage {
             Command::Repeat { number } => self.repeat(number)?,
             Command::Next => self.next()?,
             Command::All => self.all()?,
+            Command::Ticks { count } => self.pass(count)?,
             Command::Reset {
                 servers,
                 balancers,
@@ -159,7 +165,6 @@ impl Stage {
             Command::Nothing
             | Command::Title
             | Command::Show
-            | Command::Ticks { .. }
             | Command::Buckets { .. }
             | Command::Servers
             | Command::Add { .. }
@@ -254,6 +259,32 @@ impl Stage {
                 return Ok(());
             };
             self.handle(message)?;
+        }
+        Ok(())
+    }
+
+    // Ticks pass, and every session without a packet for an hour is closed.
+    fn pass(&mut self, count: u32) -> Result<(), Error>
+        ensures { λ r. ⌜ FaultChangesNothing r (machines (now (self .entry))) (machines (now (self .exit))) ⌝ }
+    {
+        let Some(clock) = self.clock.advanced(count) else {
+            return Err(Error::Of(Fault::NoSuch));
+        };
+        self.clock = clock;
+        self.close_idle(clock.now())?;
+        Ok(())
+    }
+
+    fn close_idle(&mut self, tick: u64) -> Result<(), AllocError> {
+        for _ in 0..self.sessions.as_slice().len() {
+            let Some(session) = self.sessions.first_idle(tick) else {
+                return Ok(());
+            };
+            self.sessions.close(session.flow);
+            self.see(Event::Idle {
+                at: session.at,
+                flow: session.flow,
+            })?;
         }
         Ok(())
     }

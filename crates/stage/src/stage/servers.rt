@@ -89,10 +89,14 @@ impl Stage {
         };
         let at = packet.at;
         let flow = packet.flow;
+        let tick = self.clock.now();
         match place.handle(packet, self.sessions.entry(at, flow)) {
-            Outcome::Delivered => self.see(Event::Delivered { at, flow })?,
+            Outcome::Delivered => {
+                self.sessions.touch(at, flow, tick);
+                self.see(Event::Delivered { at, flow })?;
+            }
             Outcome::Opened => {
-                self.sessions.open(at, flow)?;
+                self.sessions.open(at, flow, tick)?;
                 self.see(Event::Opened { at, flow })?;
             }
             Outcome::Forwarded { to, way } => {
