@@ -60,7 +60,7 @@ impl Fault {
             Fault::ServerFull => "the house is full",
             Fault::Contradiction => "contradicts an earlier message",
             Fault::NoServer => "no house is left",
-            Fault::ChainFull => "nine places: the handover is put off",
+            Fault::ChainFull => "nine places: the change of hands is put off",
         }
     }
 }

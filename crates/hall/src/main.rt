@@ -1,7 +1,9 @@
 // Plays one bucket by a script from standard input, and the assignment of all buckets, and prints what is seen.
+mod bytes;
 mod houses;
 mod text;
 
+use crate::bytes::Bytes;
 use crate::houses::Houses;
 use crate::text::EventText;
 use crate::text::EventTextDisplay;
@@ -38,6 +40,7 @@ const HELP: &str =
   buckets N                    so many buckets, a power of two from 16 to 65536 (4096 at first), from nothing to the houses listed
   house N ..                   the houses, in rising order: all buckets from nothing
   add N | down N               a house comes, a house goes: who had and has how many, and which buckets change hands
+  bytes on | bytes off         what goes over the wire is printed as hex beside each message that is sent, or no more
   title TEXT | # REMARK        printed as they stand
 
 A bad line is answered with its number and the fault, and changes nothing.";
@@ -101,6 +104,7 @@ fn play_line(
     rt: &LibcRuntime,
     stage: &mut Stage,
     houses: &mut Houses,
+    bytes: &mut Bytes,
     number: u64,
     line: &str,
 ) -> Result<(), AnyError> {
@@ -136,9 +140,14 @@ fn play_line(
     }
     for event in stage.seen() {
         println!(rt, "  {}", EventText(*event))?;
+        bytes.print(rt, *event)?;
     }
     match command {
         Command::Show => show(rt, stage),
+        Command::Bytes { shown } => {
+            bytes.shown = shown;
+            Ok(())
+        }
         _ => Ok(()),
     }
 }
@@ -148,11 +157,19 @@ fn play(rt: &LibcRuntime) -> Result<(), AnyError> {
         return Err("no memory".into());
     };
     let mut houses = Houses::new();
+    let mut bytes = Bytes::new();
     let mut number = 0u64;
     for line in rt.lines(rt.alloc()) {
         let line = line?;
         number = number.wrapping_add(1);
-        play_line(rt, &mut stage, &mut houses, number, line.as_str())?;
+        play_line(
+            rt,
+            &mut stage,
+            &mut houses,
+            &mut bytes,
+            number,
+            line.as_str(),
+        )?;
     }
     Ok(())
 }

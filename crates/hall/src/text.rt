@@ -110,7 +110,7 @@ impl fmt::Display for BodyText as BodyTextDisplay {
                     LinkText(before)
                 )
             }
-            Body::Stood { place } => write!(f, "I stand at place {}", place.place),
+            Body::Stood { place, .. } => write!(f, "I stand at place {}", place.place),
             Body::Behind { place, after } => {
                 write!(
                     f,
@@ -132,7 +132,11 @@ impl fmt::Display for BodyText as BodyTextDisplay {
                     LinkText(after)
                 )
             }
-            Body::Noted { place } => write!(f, "I heard that place {} is forgotten", place.place),
+            Body::Noted { place, .. } => write!(
+                f,
+                "I heard that place {} is forgotten",
+                place.place
+            ),
         }
     }
 }

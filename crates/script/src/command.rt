@@ -60,5 +60,9 @@ pub enum Command {
     Remove {
         server: u8,
     },
+    // The bytes of what is sent are printed from now on, or no more.
+    Bytes {
+        shown: bool,
+    },
     Show,
 }

@@ -87,6 +87,9 @@ fn read_one(word: &str, only: &str) -> Result<Command, Fault> {
         "down" => Ok(Command::Remove {
             server: read_small(only)?,
         }),
+        "bytes" => Ok(Command::Bytes {
+            shown: read_switch(only)?,
+        }),
         "close" => Ok(Command::Close {
             flow: flow_of(only)?,
         }),
@@ -126,6 +129,14 @@ fn read_more(word: &str, first: &str, second: &str, third: Option<&str>) -> Resu
             balancers: read_small(second)?,
             room: read_number(room)?,
         }),
+        _ => Err(Fault::Malformed),
+    }
+}
+
+fn read_switch(word: &str) -> Result<bool, Fault> {
+    match word {
+        "on" => Ok(true),
+        "off" => Ok(false),
         _ => Err(Fault::Malformed),
     }
 }

@@ -14,13 +14,13 @@ pub enum Machine {
 pub enum Body {
     Packet(Packet),
     Stand { place: Link, before: Link },
-    Stood { place: Link },
+    Stood { place: Link, before: Link },
     Behind { place: Link, after: Link },
     Told { place: Link, after: Link },
     Door { link: Link },
     Heard { link: Link },
     Forgotten { place: Link, after: Link },
-    Noted { place: Link },
+    Noted { place: Link, after: Link },
 }
 
 // The number tells it from the others on their way, a copy too.

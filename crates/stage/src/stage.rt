@@ -165,6 +165,7 @@ impl Stage {
             Command::Nothing
             | Command::Title
             | Command::Show
+            | Command::Bytes { .. }
             | Command::Buckets { .. }
             | Command::Servers
             | Command::Add { .. }

@@ -82,7 +82,7 @@ impl Stage {
 
     pub(super) fn at_controller(&mut self, message: Message) -> Result<(), AllocError> {
         match message.body {
-            Body::Stood { place } => match self.chain.stood(place.place) {
+            Body::Stood { place, .. } => match self.chain.stood(place.place) {
                 Some(after) => self.tell_newest(after),
                 None => self.see(Event::Ignored),
             },
@@ -94,9 +94,13 @@ impl Stage {
                 }
             }
             Body::Heard { link } => self.balancer_heard(message.from, link),
-            Body::Forgotten { place, .. } => {
+            Body::Forgotten { place, after } => {
                 if self.chain.forgotten(place.place) {
-                    self.send(Machine::Controller, message.from, Body::Noted { place })
+                    self.send(
+                        Machine::Controller,
+                        message.from,
+                        Body::Noted { place, after },
+                    )
                 } else {
                     self.see(Event::Ignored)
                 }

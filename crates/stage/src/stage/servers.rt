@@ -38,7 +38,7 @@ impl Stage {
                 Some(found) => self.answer(
                     message,
                     found.told_to_stand(Some(before)),
-                    Body::Stood { place },
+                    Body::Stood { place, before },
                 ),
                 None => self.see(Event::Dropped),
             },
@@ -54,11 +54,11 @@ impl Stage {
                 Some(found) => self.answer(
                     message,
                     found.told_forgotten(place.place),
-                    Body::Noted { place },
+                    Body::Noted { place, after },
                 ),
                 None => self.see(Event::Dropped),
             },
-            Body::Noted { place } => {
+            Body::Noted { place, .. } => {
                 self.noted(message.from, place);
                 Ok(())
             }
