@@ -1,4 +1,6 @@
 // Tests of the crate assignment, which would be proved twice if they stood in it.
+#![tactic(auto)]
+
 #[cfg(test)]
 mod tests {
     use assignment::balance::rebalance;

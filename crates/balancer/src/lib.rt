@@ -1,4 +1,6 @@
 // A balancer: it sends each packet to the highest place that it heard of, and keeps nothing of packets or sessions.
+#![tactic(auto)]
+
 pub mod dispatch;
 pub mod hear;
 pub mod known;

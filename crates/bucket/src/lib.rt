@@ -1,5 +1,7 @@
 // One bucket over any run. The code of a place and of the controller is in `chain`; here the model of all machines of one
 // bucket is built from the definitions that the contracts there cite, and each theorem about it is a contract.
+#![tactic(auto)]
+
 ghost use Rattle.bucket.specs.Promise.{Main};
 ghost use Rattle.bucket.specs.Runs.{SomeRuns};
 ghost use Rattle.bucket.specs.NearMisses.{AllBreak};

@@ -1,5 +1,5 @@
 -- The controller's chain as the front of its array of eight. Assumes nothing.
-use Rattle.std.proofs.Common.{◌≡◌, ℕ, zero, suc, ◌+◌, ◌-◌, ◌<◌, ◌≤◌, Bool, true, false, cond, ◌&&◌, eqb, ltb, List, [], ◌∷◌, ◌++◌, length, get_or, take, drop, set, sym, refl, ap, ◌∙◌, add-one, arith}
+use Rattle.std.proofs.Common.{◌≡◌, ℕ, zero, suc, ◌+◌, ◌-◌, ◌<◌, ◌≤◌, true, false, List, [], ◌∷◌, ◌++◌, length, get_or, take, drop, set, sym, refl, ap, ◌∙◌, add-one, arith}
 use Rattle.std.proofs.lemmas.List.{length-take-le, length-drop, take-take}
 use Rattle.std.proofs.lemmas.Bool.Decides.{nat_tests}
 use Rattle.chain.specs.declared.way.Link.{Link}
@@ -7,7 +7,7 @@ use Rattle.chain.specs.declared.handover.Handover.{Handover}
 use Rattle.chain.specs.declared.handover.Handover.TheVariants.{Idle, AwaitStood, AwaitTold}
 use Rattle.chain.specs.Ways.{same_link}
 use Rattle.chain.specs.Controllers.{Control, newest_of, above, hears_told, hears_forgotten}
-use Rattle.chain.specs.Falls.{under, falls, awaits}
+use Rattle.chain.specs.Falls.{falls, awaits}
 
 abbrev none : Link
 none = record { place = 0; server = 0 }

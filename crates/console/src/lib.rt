@@ -1,4 +1,6 @@
 // What the programs share: their arguments, how settings begin a machine, and what is printed.
+#![tactic(auto)]
+
 use anyhow::anyhow;
 use edge::post::Post;
 use fault::{Error, Fault};

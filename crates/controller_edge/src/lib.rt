@@ -1,4 +1,6 @@
 // What the controller does with bytes, whoever hands them over.
+#![tactic(auto)]
+
 ghost use Rattle.std.specs.Prelude.{◌≡◌, length};
 ghost use Rattle.machine.specs.Outboxes.{sent_of};
 ghost use Rattle.machine.specs.Steps.{Did};

@@ -1,4 +1,6 @@
 // A balancer that is fed by lines: settings and bytes come on standard input, and what it sends goes to standard output.
+#![tactic(auto)]
+
 use balancer::Balancer;
 use console::{answer, assign, is_asked, print, stop};
 use edge::post::Post;

@@ -1,4 +1,6 @@
 // Why a machine refuses: ten numbered faults, the refusal that has number 0, and want of memory, which has no number.
+#![tactic(auto)]
+
 ghost use Rattle.std.specs.Prelude.{◌≡◌};
 ghost use Rattle.fault.specs.Numbers.{fault_number, refusal_number, refusal_of};
 ghost use Rattle.fault.specs.declared.Error.TheVariants.{Of, Memory};

@@ -1,11 +1,10 @@
 -- A number is made again from its bytes, and a session from its 13 bytes. Assumes nothing.
-use Rattle.std.proofs.Common.{◌≡◌, ℕ, ◌+◌, ◌*◌, ◌/◌, ◌%◌, ◌<◌, List, Some, refl, ap, mod-eq_of_lt, arith}
+use Rattle.std.proofs.Common.{◌≡◌, ℕ, ◌+◌, ◌*◌, ◌/◌, ◌%◌, ◌<◌, Some, refl, mod-eq_of_lt, arith}
 use native.Mathlib.Nat.{div-div-eq-div-mul}
 use Rattle.std.proofs.lemmas.Nat.{div_below, div-add-mod'}
-use Rattle.flow.specs.declared.key.FlowKey.{FlowKey}
 use Rattle.flow.specs.declared.key.Protocol.{Protocol}
 use Rattle.flow.specs.declared.key.Protocol.TheVariants.{Tcp, Udp}
-use Rattle.flow.specs.Bytes.{key_bytes, key_of, FitsKey, KeyRoundTrip, protocol_of}
+use Rattle.flow.specs.Bytes.{KeyRoundTrip, protocol_of}
 use Rattle.flow.specs.Key.{protocol_number}
 
 pub of16 : (n : ℕ) → n < 65536 → (n / 256 % 256) * 256 + n % 256 ≡ n

@@ -1,5 +1,5 @@
 -- A number with one bit is a power of two, and each power of two has one bit; twice as many buckets split each in two. Assumes nothing.
-use Rattle.std.proofs.Common.{◌≡◌, ℕ, zero, suc, ◌+◌, ◌-◌, ◌*◌, ◌/◌, ◌%◌, ◌^◌, ◌<◌, ◌≤◌, Bool, true, false, ◌&&◌, ◌||◌, eqb, leb, ◌⊎◌, sym, refl, ap, ◌∙◌, subst, inl, inr, one-add, arith, pow_mono, pow-add}
+use Rattle.std.proofs.Common.{◌≡◌, ℕ, zero, suc, ◌+◌, ◌*◌, ◌/◌, ◌%◌, ◌^◌, ◌<◌, ◌≤◌, true, eqb, leb, ◌⊎◌, sym, refl, ap, ◌∙◌, subst, inl, inr, one-add, arith, pow_mono, pow-add}
 use lib.Arith.{bin_ind, mod-mul}
 use lib.Count.{ones, ones_in, ones_step, ones_cat}
 use Rattle.std.proofs.lemmas.Nat.{pow_pos, pow_below, mod_below}

@@ -1,5 +1,5 @@
 -- The four steps of the reversal: the first three turn each byte, by one test at each of its 256 values, and the last one the two bytes. Assumes nothing.
-use Rattle.std.proofs.Common.{◌≡◌, ℕ, zero, suc, ◌+◌, ◌-◌, ◌*◌, ◌/◌, ◌%◌, ◌^◌, ◌<◌, ◌≤◌, Bool, true, eqb, sym, refl, ap, ◌∙◌, subst, mod-eq_of_lt, mul_assoc, mul_comm, add-mul, one-add, arith}
+use Rattle.std.proofs.Common.{◌≡◌, ℕ, zero, suc, ◌+◌, ◌-◌, ◌*◌, ◌/◌, ◌%◌, ◌^◌, ◌<◌, true, eqb, sym, refl, ap, ◌∙◌, subst, mul_assoc, mul_comm, add-mul, one-add, arith}
 use lib.Bits.{bit_and, bit_or, and_block, or_block, and_zero_r, or_shifted, and_le_r, or_lt}
 use Rattle.std.proofs.lemmas.Nat.{pow-add, div_below, mod_below, div-add-mod', shr-shr, mul-le}
 use Rattle.std.proofs.lemmas.Bool.Decides.{Decides-eqb}

@@ -1,5 +1,5 @@
 -- Two flows that the test takes for the same are equal, and each is the same as itself. Assumes nothing.
-use Rattle.std.proofs.Common.{◌≡◌, ℕ, Bool, true, false, ◌&&◌, eqb, refl, arith}
+use Rattle.std.proofs.Common.{◌≡◌, ℕ, true, refl, arith}
 use Rattle.std.proofs.lemmas.Bool.Decides.{nat_tests}
 use Rattle.flow.specs.declared.key.Protocol.{Protocol}
 use Rattle.flow.specs.declared.key.Protocol.TheVariants.{Tcp, Udp}

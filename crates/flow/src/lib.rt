@@ -1,4 +1,6 @@
 // Which session a packet belongs to, and which bucket the session is in.
+#![tactic(auto)]
+
 pub mod buckets;
 pub mod bytes;
 pub mod ipv4;

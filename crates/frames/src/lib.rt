@@ -1,4 +1,6 @@
 // The bytes on the wire of what is on its way in the stage.
+#![tactic(auto)]
+
 mod inside;
 
 use crate::inside::{tcp, udp};

@@ -1,4 +1,6 @@
 // Plays one bucket by a script from standard input, and the assignment of all buckets, and prints what is seen.
+#![tactic(auto)]
+
 mod bytes;
 mod houses;
 mod text;
@@ -59,9 +61,9 @@ fn show(rt: &HostRuntime, stage: &Stage) -> anyhow::Result<()> {
 }
 
 fn show_office(rt: &HostRuntime, stage: &Stage) -> anyhow::Result<()> {
-    print!(rt, "  office keeps")?;
+    print!(rt; "  office keeps")?;
     for link in stage.chain().links() {
-        print!(rt, " {},", LinkText(*link))?;
+        print!(rt; " {},", LinkText(*link))?;
     }
     match stage.chain().handover() {
         Handover::Idle => println!(rt; " no change of hands")?,

@@ -1,4 +1,6 @@
 // A server that is fed by lines: settings and bytes come on standard input, and what it sends goes to standard output.
+#![tactic(auto)]
+
 use chain::place::Outcome;
 use console::{answer, assign, is_asked, print, print_packet, stop};
 use edge::post::Post;

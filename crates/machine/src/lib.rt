@@ -1,4 +1,6 @@
 // What all machines share: their names, what they send, and when something is said again.
+#![tactic(auto)]
+
 pub mod again;
 pub mod name;
 pub mod outbox;

@@ -1,4 +1,6 @@
 // A machine played from a script of bytes, for measuring and comparing from another language.
+#![tactic(auto)]
+
 pub mod digest;
 pub mod output;
 pub mod script;

@@ -75,17 +75,17 @@ fn same(one: Option<u8>, other: Option<u8>) -> bool {
 
 fn print_way(rt: &HostRuntime, from: Option<u8>, to: u8) -> anyhow::Result<()> {
     match from {
-        Some(from) => print!(rt, "  house {from} -> house {to}:")?,
-        None => print!(rt, "  nobody -> house {to}:")?,
+        Some(from) => print!(rt; "  house {from} -> house {to}:")?,
+        None => print!(rt; "  nobody -> house {to}:")?,
     }
     Ok(())
 }
 
 fn print_run(rt: &HostRuntime, first: u16, last: u16) -> anyhow::Result<()> {
     if first == last {
-        print!(rt, " {first}")?;
+        print!(rt; " {first}")?;
     } else {
-        print!(rt, " {first}-{last}")?;
+        print!(rt; " {first}-{last}")?;
     }
     Ok(())
 }

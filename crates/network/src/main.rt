@@ -1,4 +1,6 @@
 // Plays all machines by a script from standard input, and prints what is seen.
+#![tactic(auto)]
+
 mod houses;
 mod show;
 mod text;
@@ -90,8 +92,8 @@ impl Hall {
     }
 
     fn print_letter(&self, rt: &HostRuntime, letter: &Letter) -> anyhow::Result<()> {
-        print!(
-            rt,
+        print!(rt;
+           
             "  on its way {}, {} to {}: ",
             letter.number,
             MachineText(letter.from),

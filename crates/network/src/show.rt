@@ -42,9 +42,9 @@ fn show_places(
 
 // The chain as the controller keeps it, newest first.
 fn show_chain(rt: &HostRuntime, kept: &Bucket) -> anyhow::Result<()> {
-    print!(rt, "  office keeps")?;
+    print!(rt; "  office keeps")?;
     for link in kept.links() {
-        print!(rt, " {},", LinkText(*link))?;
+        print!(rt; " {},", LinkText(*link))?;
     }
     match kept.handover() {
         Handover::Idle => println!(rt; " no change of hands")?,

@@ -1,4 +1,6 @@
 // The controller, fed by lines: settings and bytes come on standard input, and what it sends goes to standard output.
+#![tactic(auto)]
+
 use console::{answer, is_asked, print, stop};
 use controller::kept::Controller;
 use edge::post::Post;

@@ -1,3 +1,5 @@
 // What one server knows of the places of one bucket.
+#![tactic(auto)]
+
 pub mod kept;
 mod search;

@@ -4,7 +4,7 @@ use Rattle.std.proofs.lemmas.List.{length-replicate, take_all}
 use Rattle.fault.specs.declared.Fault.{Fault}
 use Rattle.fault.specs.declared.Fault.TheVariants.{NoSuch, NoServer}
 use Rattle.assignment.specs.Rule.{rises, rebalanced, is_buckets, answered}
-use Rattle.assignment.specs.Even.{Even, Fewest}
+use Rattle.assignment.specs.Even.{Even, Fewest, Numbered}
 use Rattle.roster.specs.Rosters.{none}
 
 ok_is : (p q r : Bool) (xs ys zs : List ℕ)
@@ -24,6 +24,13 @@ no_buckets n ss h = rw (length-replicate {A = ℕ} n 65535, h)
 pub renewed : (ss us xs vs ys zs : List ℕ) → us ≡ ss → vs ≡ xs → zs ≡ ys → (Ok tt, ys) ≡ answered us vs → Even us ys → Fewest us vs ys
     → (zs ≡ rebalanced ss xs) × Even ss zs × Fewest ss xs zs
 renewed ss us xs vs ys zs a b d e f g = rw (d, sym a, sym b) (ok_rebalanced us vs ys e, f, g)
+
+pub renewed_whole : (ss us xs vs ys zs : List ℕ) → us ≡ ss → vs ≡ xs → zs ≡ ys → (Ok tt, ys) ≡ answered us vs → Numbered (length vs) ys
+    → Numbered (length xs) zs × (answered ss xs ≡ (Ok tt, zs))
+renewed_whole ss us xs vs ys zs a b d e n = rw (d, sym a, sym b) (n, sym e)
+
+pub none_numbered : (n : ℕ) (zs : List ℕ) → Numbered (length (none n)) zs → Numbered n zs
+none_numbered n zs h = (h.0 ∙ length-replicate {A = ℕ} n 65535, h.1)
 
 pub none_is : (n m : ℕ) (xs ys : List ℕ) → xs ≡ [] → m ≡ 0 → ys ≡ take n xs ++ replicate (n - m) 65535 → ys ≡ none n
 none_is n m xs ys e f g = let h : n - m ≡ n = omega arith in rw (g, e, h, take_all {A = ℕ} n [] (omega arith))

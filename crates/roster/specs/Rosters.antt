@@ -5,7 +5,7 @@ use Rattle.fault.specs.declared.Error.{Error}
 use Rattle.fault.specs.declared.Error.TheVariants.{Of, Memory}
 use Rattle.fault.specs.declared.Fault.TheVariants.{NoSuch}
 use Rattle.assignment.specs.declared.moves.Move.{Move}
-use Rattle.assignment.specs.Even.{Even, Fewest}
+use Rattle.assignment.specs.Even.{Even, Fewest, Numbered}
 use Rattle.assignment.specs.Rule.{rebalanced, answered}
 use Rattle.assignment.specs.Moves.{moves_from}
 use Rattle.roster.specs.declared.roster.Roster.{Roster}
@@ -54,3 +54,15 @@ Added s a b r = MatchBool (length (with_server s (servers_of a)) == length (serv
 -- s goes; where the list without it is no shorter, s is not listed
 abbrev pub Removed : ℕ → Roster → Roster → Result (Vec Move Global) Error → Type 0
 Removed s a b r = MatchBool (length (without_server s (servers_of a)) == length (servers_of a)) (Unlisted a b r) (Changed (without_server s (servers_of a)) a b r)
+
+-- what holds beside Changed: each bucket has the number of a server then, and what stands then is the rule's answer
+abbrev pub ChangedWhole : List ℕ → Roster → Roster → Result (Vec Move Global) Error → Type 0
+ChangedWhole ss a b (Ok v) = Numbered (length (assignment_of a)) (assignment_of b) × (answered ss (assignment_of a) ≡ (Ok tt, assignment_of b))
+ChangedWhole ss a b (Err e) = Unit {0}
+
+-- what holds beside Added and beside Removed, where the list changed
+abbrev pub AddedWhole : ℕ → Roster → Roster → Result (Vec Move Global) Error → Type 0
+AddedWhole s a b r = MatchBool (length (with_server s (servers_of a)) == length (servers_of a)) (Unit {0}) (ChangedWhole (with_server s (servers_of a)) a b r)
+
+abbrev pub RemovedWhole : ℕ → Roster → Roster → Result (Vec Move Global) Error → Type 0
+RemovedWhole s a b r = MatchBool (length (without_server s (servers_of a)) == length (servers_of a)) (Unit {0}) (ChangedWhole (without_server s (servers_of a)) a b r)

@@ -1,7 +1,8 @@
 // The list of servers and the assignment of all buckets to them, as servers come and go.
 ghost use Rattle.std.specs.Prelude.{◌≡◌, IfOk, vec_len};
 ghost use Rattle.assignment.specs.Rule.{is_buckets};
-ghost use Rattle.roster.specs.Rosters.{none, servers_of, assignment_of, Begun, Changed, Added, Removed};
+ghost use Rattle.roster.specs.Rosters.{none, servers_of, assignment_of, Begun, Changed, Added, Removed, ChangedWhole, AddedWhole, RemovedWhole};
+ghost use Rattle.assignment.specs.Even.{Numbered};
 
 use crate::list::{with_server, without_server};
 use assignment::balance::rebalance;
@@ -37,7 +38,8 @@ pub fn unassigned(heap: Global, buckets: usize) -> Result<Vec<u16>, AllocError>
 impl Roster {
     // All buckets are assigned from nothing. The servers are listed in rising order, else they are refused.
     pub fn new(heap: Global, buckets: usize, servers: &[u8]) -> Result<Roster, Error>
-        ensures { Begun buckets servers.now result }
+        ensures begun { Begun buckets servers.now result }
+        ensures numbered { IfOk result (λ r. Numbered buckets (assignment_of r)) }
     {
         if !is_buckets(buckets) {
             return Err(Error::Of(Fault::NoSuch));
@@ -67,7 +69,8 @@ impl Roster {
 
     // A server comes: the buckets that change hands. One that is listed changes nothing.
     pub fn add(&mut self, heap: Global, server: u8) -> Result<Vec<Move>, Error>
-        ensures { Added server self.old self.new result }
+        ensures added { Added server self.old self.new result }
+        ensures whole { AddedWhole server self.old self.new result }
     {
         let Ok(servers) = with_server(heap, self.servers.as_slice(), server) else {
             return Err(Error::Memory);
@@ -80,7 +83,8 @@ impl Roster {
 
     // A server goes: the buckets that change hands. Refused: one that is not listed, and the last one.
     pub fn remove(&mut self, heap: Global, server: u8) -> Result<Vec<Move>, Error>
-        ensures { Removed server self.old self.new result }
+        ensures removed { Removed server self.old self.new result }
+        ensures whole { RemovedWhole server self.old self.new result }
     {
         let Ok(servers) = without_server(heap, self.servers.as_slice(), server) else {
             return Err(Error::Memory);
@@ -93,7 +97,8 @@ impl Roster {
 
     // All is made beside the old, and comes in its place last, so that a refusal changes nothing.
     fn change(&mut self, heap: Global, servers: Vec<u8>) -> Result<Vec<Move>, Error>
-        ensures { Changed servers.items self.old self.new result }
+        ensures changed { Changed servers.items self.old self.new result }
+        ensures whole { ChangedWhole servers.items self.old self.new result }
     {
         let mut assignment = Vec::from_slice(heap, self.assignment.as_slice())?;
         rebalance(assignment.as_mut_slice(), servers.as_slice())?;

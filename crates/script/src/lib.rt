@@ -1,4 +1,6 @@
 // The script that the hall plays: a line of text is one command, or a fault.
+#![tactic(auto)]
+
 pub mod command;
 pub mod flow_text;
 pub mod read;

@@ -1,4 +1,6 @@
 // What a server does with bytes, whoever hands them over.
+#![tactic(auto)]
+
 ghost use Rattle.std.specs.Prelude.{◌≡◌, ◌&&◌, [], ◌∷◌};
 ghost use Rattle.wire.specs.Forwarding.{forwarded};
 ghost use Rattle.wire.specs.Laws.{Bytes};

@@ -14,7 +14,7 @@ use Rattle.sessions.specs.Slots.{flat, tidy, fresh}
 use Rattle.sessions.specs.Tallies.{tallied_in}
 use Rattle.sessions.specs.Kept.{InSlots, Numbered, Listed, Tallied, NoneBefore, Grouped, Bounded}
 use Rattle.sessions.specs.Model.{one, touched, Changed}
-use Rattle.sessions.proofs.Same.{same_eq, same_refl, slot_below}
+use Rattle.sessions.proofs.Same.{same_eq, same_flip, slot_below}
 use Rattle.sessions.proofs.Changes.{seen_push, seen_noted, seen_without, noted_miss, without_miss, count_noted, count_without, length_noted, length_without, once_push, once_noted, once_without, all_noted, all_without}
 use Rattle.sessions.proofs.Files.{Filed, Tidy, Fresh, tidy_in, tidy_out, fresh_in, fresh_out, tidy_slot, tidy_set, seen_flat, seen_set, all_slot, all_flat_set, length_set_slot, count_set_slot}
 use Rattle.sessions.proofs.Stores.{Holds}
@@ -30,7 +30,7 @@ cond_some false x y e = omega arith
 
 pub nothing : (k : Key) (es : List Entry) → seen_in k es ≡ None → Changed es es k None
 nothing k es n = record {
-  found = λ q. elim (cases_Bool (same_key q k)) [ inl y ↦ rw (y, same_eq q k y) n | inr m ↦ rw m ];
+  found = λ q. elim (cases_Bool (same_key k q)) [ inl y ↦ rw (y, sym (same_eq k q y)) n | inr m ↦ rw m ];
   counts = λ b p. rw n;
   size = rw n;
 }
@@ -38,7 +38,7 @@ nothing k es n = record {
 noted_by : (k : Key) (t : ℕ) (es : List Entry) (o : Option ℕ) → seen_in k es ≡ o → Changed es (noted k t es) k (touched t o)
 noted_by k t es None e = rw (noted_miss k t es e) (nothing k es e)
 noted_by k t es (Some s) e = record {
-  found = λ q. seen_noted q k s t es e;
+  found = λ q. rw (same_flip k q) (seen_noted q k s t es e);
   counts = λ b p. rw (e, count_noted b p k t es);
   size = rw (e, length_noted k t es);
 }
@@ -49,7 +49,7 @@ noted_slot k t es = noted_by k t es (seen_in k es) refl
 without_by : (k : Key) (es : List Entry) (o : Option ℕ) → Once es → seen_in k es ≡ o → Changed es (without k es) k None
 without_by k es None u e = rw (without_miss k es e) (nothing k es e)
 without_by k es (Some s) u e = record {
-  found = λ q. seen_without q k es u;
+  found = λ q. rw (same_flip k q) (seen_without q k es u);
   counts = λ b p. rw e (let c = count_without b p k s es e in cond_none (in_place b p k) _ _ (omega arith));
   size = rw e (omega (arith, length_without k s es e));
 }
@@ -59,7 +59,7 @@ without_slot k es u = without_by k es (seen_in k es) u refl
 
 pub push_slot : (k : Key) (t : ℕ) (es : List Entry) → seen_in k es ≡ None → Changed es (es ++ record { key = k; seen = t } ∷ []) k (Some t)
 push_slot k t es n = record {
-  found = λ q. seen_push q k t es n;
+  found = λ q. rw (same_flip k q) (seen_push q k t es n);
   counts = λ b p. rw n (let c = sum_by_push (λ e. cond (in_place b p e.key) 1 0) es (record { key = k; seen = t }) in cond_some (in_place b p k) _ _ (omega arith));
   size = rw n (omega (arith, length_push es (record { key = k; seen = t })));
 }
@@ -99,21 +99,15 @@ pub changed_holds : (ss : List (List Entry)) (s : List Entry) (ts ts' : List (Li
     → Filed (slot_of k) s → Changed (get_or ss (slot_of k) []) s k w → Fresh o' s → o' ≤ o → length ts' ≡ 65536 → Retallied ts ts' k (seen_in k (flat ss)) w
     → n' + one (seen_in k (flat ss)) ≡ n + one w → n' ≤ 65536 → length bs' ≡ 4096 → ((g : ℕ) → get_or bs' g 0 ≤ get_or bs g 0) → Fresh (get_or bs' (slot_of k / 16) 0) s → Holds (set ss (slot_of k) s) ts' n' o' bs'
 changed_holds ss s ts ts' n n' o o' bs bs' k w hold f c a le l r m few lb low fb =
-    let t = tidy_in 0 ss hold.0.1 in
-    let all = changed_all ss s k w t hold.0.0 f c in
-    let old = fresh_in o (flat ss) hold.1.1.1.1.0 in (
-      (length-set ss (slot_of k) s ∙ hold.0.0, tidy_out 0 (set ss (slot_of k) s) (tidy_here ss s k t f)),
-      (
-        (omega (arith, all.size, hold.1.0.0), few),
-        (
-          l,
-          (
-            (λ b p h. omega (arith, r b p h, all.counts b p, hold.1.1.1.0 b p h)),
-            (
-              fresh_out o' (flat (set ss (slot_of k) s)) (all_flat_set (λ e. o' ≤ e.seen) ss (slot_of k) s a (All-weaker (λ e. o ≤ e.seen) (λ e. o' ≤ e.seen) (λ e x. omega arith) (flat ss) old)),
-              (lb, (bounded_set ss s (slot_of k) bs bs' (omega (arith, slot_below k, hold.0.0)) hold.1.1.1.1.1.1.0 low fb, tt)),
-            ),
-          ),
-        ),
-      ),
-    )
+    let t = tidy_in 0 ss hold.filing.1 in
+    let all = changed_all ss s k w t hold.filing.0 f c in
+    let old = fresh_in o (flat ss) hold.ages in
+    record {
+      filing = (length-set ss (slot_of k) s ∙ hold.filing.0, tidy_out 0 (set ss (slot_of k) s) (tidy_here ss s k t f));
+      number = (omega (arith, all.size, hold.number.0), few);
+      lists = l;
+      places = λ b p h. omega (arith, r b p h, all.counts b p, hold.places b p h);
+      ages = fresh_out o' (flat (set ss (slot_of k) s)) (all_flat_set (λ e. o' ≤ e.seen) ss (slot_of k) s a (All-weaker (λ e. o ≤ e.seen) (λ e. o' ≤ e.seen) (λ e x. omega arith) (flat ss) old));
+      groups = lb;
+      limits = bounded_set ss s (slot_of k) bs bs' (omega (arith, slot_below k, hold.filing.0)) hold.limits low fb;
+    }

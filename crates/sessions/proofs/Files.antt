@@ -130,15 +130,15 @@ tidy_set n (suc i) s (x ∷ ss) t f = let z : n + suc i ≡ suc n + i = omega ar
 
 -- all slots after a change of one: what is found, what holds of each entry, sums
 pub seen_set : (ss : List (List Entry)) (s : List Entry) (k : Key) (w : Option ℕ) → Tidy 0 ss → Tidy 0 (set ss (slot_of k) s) → slot_of k < length ss
-    → ((q : Key) → seen_in q s ≡ cond (same_key q k) w (seen_in q (get_or ss (slot_of k) [])))
-    → (q : Key) → seen_in q (flat (set ss (slot_of k) s)) ≡ cond (same_key q k) w (seen_in q (flat ss))
+    → ((q : Key) → seen_in q s ≡ cond (same_key k q) w (seen_in q (get_or ss (slot_of k) [])))
+    → (q : Key) → seen_in q (flat (set ss (slot_of k) s)) ≡ cond (same_key k q) w (seen_in q (flat ss))
 seen_set ss s k w t t' h f q =
     rw (seen_flat q (set ss (slot_of k) s) t', seen_flat q ss t)
     (elim (cases_eq (slot_of q) (slot_of k)) [
       | inl e ↦ rw (e, get_or-set_same ss (slot_of k) s [] h) (f q)
       | inr n ↦
-          let other : same_key q k ≡ false = elim (cases_Bool (same_key q k)) [
-            | inl y ↦ absurd (n (ap slot_of (same_eq q k y)))
+          let other : same_key k q ≡ false = elim (cases_Bool (same_key k q)) [
+            | inl y ↦ absurd (n (sym (ap slot_of (same_eq k q y))))
             | inr z ↦ z
           ] in
           rw (get_or-set_other ss (slot_of k) (slot_of q) s [] n, other)

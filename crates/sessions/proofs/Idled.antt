@@ -45,5 +45,12 @@ lapsing_refused t was after r e x = let z : r ≡ Err Memory = x.1 ∙ ap Err x.
 
 -- the fields afterwards
 pub idle_holds : (s : Sessions) (o : ℕ) (bs : List ℕ) → Grouped bs → Bounded (slots_of s) bs → ((g : ℕ) → g < 4096 → o ≤ get_or bs g 0) → Holds (slots_of s) (tallies_of s) s.len o bs
-idle_holds s o bs l b le =
-    (s.filing, (s.number, (s.lists, (s.places, (fresh_out o (flat (slots_of s)) (fresh_flat o (slots_of s) (under_all o (slots_of s) bs s.filing.0 b le)), (l, (b, tt)))))))
+idle_holds s o bs l b le = record {
+  filing = s.filing;
+  number = s.number;
+  lists = s.lists;
+  places = s.places;
+  ages = fresh_out o (flat (slots_of s)) (fresh_flat o (slots_of s) (under_all o (slots_of s) bs s.filing.0 b le));
+  groups = l;
+  limits = b;
+}

@@ -40,7 +40,7 @@ abbrev pub bounds_of : Sessions → List ℕ
 bounds_of s = vec_items s.bounds
 
 pub holds : (s : Sessions) → Holds (slots_of s) (tallies_of s) s.len s.oldest (bounds_of s)
-holds s = (s.filing, (s.number, (s.lists, (s.places, (s.ages, (s.groups, (s.limits, tt)))))))
+holds s = record { filing = s.filing; number = s.number; lists = s.lists; places = s.places; ages = s.ages; groups = s.groups; limits = s.limits }
 
 pub len_is : (s : Sessions) → (s.len ≡ length (entries_of s)) × (s.len ≤ 65536)
 unfolding entries_of
@@ -274,4 +274,12 @@ undone_holds s k j ss u u' w w' e js b g up gw low =
     let z : map vec_items (set (set (vec_items s.tallies) j u') j w') ≡ ts =
     ap (map vec_items) (set-set (vec_items s.tallies) j u' w') ∙ (tallies_after s j w' ∙ ap (λ y. set (tallies_of s) y (vec_items w')) js) in
     rw (e, z)
-    (s.filing, (s.number, (length-set (tallies_of s) k.bucket (vec_items w') ∙ l, ((λ x p y. zeros (in_place x p k) _ _ (r x p y) ∙ s.places x p y), (s.ages, (s.groups, (s.limits, tt)))))))
+    (record {
+      filing = s.filing;
+      number = s.number;
+      lists = length-set (tallies_of s) k.bucket (vec_items w') ∙ l;
+      places = λ x p y. zeros (in_place x p k) _ _ (r x p y) ∙ s.places x p y;
+      ages = s.ages;
+      groups = s.groups;
+      limits = s.limits;
+    })

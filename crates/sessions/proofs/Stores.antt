@@ -52,31 +52,26 @@ empty_at (xs ∷ xss) (suc i) a = empty_at xss i a.1
 
 -- the invariant, as the parts that a store shows
 abbrev pub Holds : List (List Entry) → List (List Tally) → ℕ → ℕ → List ℕ → Type 0
-Holds ss ts n o bs = InSlots ss × (Numbered ss n × (Listed ts × (Tallied ss ts × (NoneBefore ss o × (Grouped bs × (Bounded ss bs × Unit {0}))))))
+Holds ss ts n o bs = record {
+  filing : InSlots ss;
+  number : Numbered ss n;
+  lists : Listed ts;
+  places : Tallied ss ts;
+  ages : NoneBefore ss o;
+  groups : Grouped bs;
+  limits : Bounded ss bs;
+}
 
 pub new_holds : (ss : List (List Entry)) (ts : List (List Tally)) (bs : List ℕ) → length ss ≡ 65536 → length ts ≡ 65536 → length bs ≡ 4096 → Empty ss → Empty ts → Holds ss ts 0 0 bs
-new_holds ss ts bs l m g a b = (
-  (l, empty_tidy 0 ss a),
-  (
-    (rw (empty_flat ss a), omega arith),
-    (
-      m,
-      (
-        (λ i p h. rw (empty_flat ss a, empty_at ts i b)),
-        (
-          rw (empty_flat ss a),
-          (
-            g,
-            (
-              (λ i. rw (empty_at ss i a)),
-              tt,
-            ),
-          ),
-        ),
-      ),
-    ),
-  ),
-)
+new_holds ss ts bs l m g a b = record {
+  filing = (l, empty_tidy 0 ss a);
+  number = (rw (empty_flat ss a), omega arith);
+  lists = m;
+  places = λ i p h. rw (empty_flat ss a, empty_at ts i b);
+  ages = rw (empty_flat ss a);
+  groups = g;
+  limits = λ i. rw (empty_at ss i a);
+}
 
 -- the tally of a place is the number of its entries, and no more than all
 pub tally_at : (v : Vec (Vec Tally Global) Global) (ss : List (List Entry)) (i p : ℕ) (t : Vec Tally Global) → Listed (map vec_items (vec_items v)) → Tallied ss (map vec_items (vec_items v))

@@ -1,4 +1,6 @@
 // The store of sessions on examples: the hour to the tick, places apart, and the limit.
+#![tactic(auto)]
+
 use flow::key::{FlowKey, Protocol};
 use sessions::key::Key;
 

@@ -1,4 +1,6 @@
 // The sessions of a server played from a script of bytes, for measuring from another language.
+#![tactic(auto)]
+
 ghost use Rattle.std.specs.Prelude.{◌≡◌, ◌+◌, ◌≤◌, length};
 
 use fault::Error;

@@ -1,4 +1,6 @@
 // The settings of a program: one to a line, and then `run`.
+#![tactic(auto)]
+
 pub mod kept;
 pub mod laws;
 mod list;

@@ -1,5 +1,7 @@
 // All machines together over any run. What each machine does is in its own crate; here they and the network between them
 // are one model, built from the definitions that the machines' contracts cite, and the theorem about it is a contract.
+#![tactic(auto)]
+
 ghost use Rattle.whole.specs.Promise.{Main, Balanced};
 ghost use Rattle.whole.specs.Runs.{SomeRuns};
 

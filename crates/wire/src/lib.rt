@@ -1,3 +1,5 @@
 // What machines say to each other, its formats, and what holds of them.
+#![tactic(auto)]
+
 pub mod laws;
 pub mod message;

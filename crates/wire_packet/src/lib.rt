@@ -1,4 +1,6 @@
 // Packets between machines, and packets that go back to their sender, as bytes.
+#![tactic(auto)]
+
 pub mod number;
 pub mod place;
 

@@ -1,4 +1,6 @@
 // Messages read from bytes: to the end, or to the first fault.
+#![tactic(auto)]
+
 mod control;
 mod order;
 

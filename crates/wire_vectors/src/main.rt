@@ -1,4 +1,6 @@
 // Reads the bytes of each line of its input and says what they are, as numbers, or sends the packet on that they are.
+#![tactic(auto)]
+
 use anyhow::anyhow;
 use chain::way::{Link, Way};
 use flow::buckets::Buckets;

@@ -1,4 +1,6 @@
 // Messages written as bytes, behind what is there: all of a message, or nothing of it.
+#![tactic(auto)]
+
 pub mod forward;
 
 ghost use Rattle.std.specs.Prelude.{◌≡◌, [], ◌∷◌, ◌++◌, length};

@@ -1,4 +1,6 @@
 // Words and numbers in a line of text: words have a space between them, numbers are decimal.
+#![tactic(auto)]
+
 ghost use Rattle.std.specs.Prelude.{◌≡◌, ◌≤◌, length};
 ghost use Rattle.std.specs.Str.{bytes_eq};
 ghost use Rattle.words.specs.Words.{word_length, word_of, rest_of, seen, after_space, with_digit, numeral};

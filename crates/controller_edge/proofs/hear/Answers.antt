@@ -16,12 +16,12 @@ returns-in-Ok c =
     let k = ruling c.args.controller.now in
     let k' = ruling c.step.new.controller in
     let was = mails_of c.args.out.now in
-    let after = mails_of c.send-all.new.out in
+    let after = mails_of c.send_all.new.out in
     let s = sort_of c.sort-sorted.result in
     let e : s ≡ sort role.Controller from (length k.charges) bs = c.sort-sorted.ensures ∙ ap (λ n. sort role.Controller from n bs) c.buckets.ensures in
-    subst (λ x. Hears (posting from bs k (stepped from k x)) c.send-all.result k k' was after) e
-    (done (stepped from k s) from bs c.send-all.result k k' (sent_of c.new-outbox.result) (sent_of c.step.new.outbox) c.sent.result.now was after
-    c.in-Ok.ensures c.new-outbox.ensures c.sent.ensures c.send-all.ensures)
+    subst (λ x. Hears (posting from bs k (stepped from k x)) c.send_all.result k k' was after) e
+    (done (stepped from k s) from bs c.send_all.result k k' (sent_of c.new-outbox.result) (sent_of c.step.new.outbox) c.sent.result.now was after
+    c.in-Ok.ensures c.new-outbox.ensures c.sent.ensures c.send_all.ensures)
 
 pub returns : goal.returns
 returns c =
@@ -30,9 +30,9 @@ returns c =
     let k = ruling c.args.controller.now in
     let k' = ruling c.step.new.controller in
     let was = mails_of c.args.out.now in
-    let after = mails_of c.refuse-for.new.out in
+    let after = mails_of c.refuse_for.new.out in
     let s = sort_of c.sort-sorted.result in
     let e : s ≡ sort role.Controller from (length k.charges) bs = c.sort-sorted.ensures ∙ ap (λ n. sort role.Controller from n bs) c.buckets.ensures in
-    subst (λ x. Hears (posting from bs k (stepped from k x)) c.refuse-for.result k k' was after) e
-    (stopped (stepped from k s) c.in-Err.error from bs c.refuse-for.result k k' (sent_of c.new-outbox.result) (sent_of c.step.new.outbox) was after
-    c.in-Err.ensures c.refuse-for.ensures)
+    subst (λ x. Hears (posting from bs k (stepped from k x)) c.refuse_for.result k k' was after) e
+    (stopped (stepped from k s) c.in-Err.error from bs c.refuse_for.result k k' (sent_of c.new-outbox.result) (sent_of c.step.new.outbox) was after
+    c.in-Err.ensures c.refuse_for.ensures)

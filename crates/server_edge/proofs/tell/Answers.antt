@@ -10,6 +10,6 @@ pub returns : goal.returns
 returns c =
     let was = c.args.server.now in
     let is = c.told.new.self in
-    told_stopped (told c.args.from c.args.control (keeping was) (sessions_of was)) c.in-Err.error c.args.from c.args.bytes.now c.refuse-for.result (keeping was) (keeping is)
-    (sessions_of was) (sessions_of is) (sent_of c.new-outbox.result) (sent_of c.told.new.out) (mails_of c.args.out.now) (mails_of c.refuse-for.new.out)
-    c.in-Err.ensures.did c.told.ensures.sessions c.refuse-for.ensures
+    told_stopped (told c.args.from c.args.control (keeping was) (sessions_of was)) c.in-Err.error c.args.from c.args.bytes.now c.refuse_for.result (keeping was) (keeping is)
+    (sessions_of was) (sessions_of is) (sent_of c.new-outbox.result) (sent_of c.told.new.out) (mails_of c.args.out.now) (mails_of c.refuse_for.new.out)
+    c.in-Err.ensures.did c.told.ensures.sessions c.refuse_for.ensures

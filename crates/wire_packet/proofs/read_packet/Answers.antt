@@ -8,5 +8,5 @@ use Rattle.wire_packet.proofs.read_packet.Goals as goal
 
 pub returns : goal.returns
 returns c =
-    let whole = resumes reached c.args.buckets.count (drop 2 packet.fields) (bucket_f ∷ plain_f four ∷ []) [] c.args.bytes.now _ _ c.in-ok-at.ensures in
-    rw (c.found.ensures, seen_located) (rw c.read-carried.ensures (ap (ended packet c.args.buckets.count) whole))
+    let whole = resumes reached c.args.buckets.count (drop 2 packet.fields) (bucket_f ∷ plain_f four ∷ []) [] c.args.bytes.now _ _ c.in_ok-at.ensures in
+    rw (c.found.ensures, seen_located) (rw c.read_carried.ensures (ap (ended packet c.args.buckets.count) whole))

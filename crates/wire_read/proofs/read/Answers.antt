@@ -7,6 +7,6 @@ use Rattle.wire_read.proofs.read.Goals as goal
 pub returns : goal.returns
 returns c =
     record {
-      value = c.read-kind.ensures;
-      form = forms c.args.buckets.count c.args.bytes.now (seen c.read-kind.result) (λ i. omega (arith, c.type-inv.bytes i)) c.read-kind.ensures;
+      value = c.read_kind.ensures;
+      form = forms c.args.buckets.count c.args.bytes.now (seen c.read_kind.result) (λ i. omega (arith, c.type_inv.bytes i)) c.read_kind.ensures;
     }

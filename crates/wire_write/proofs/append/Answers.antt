@@ -5,10 +5,10 @@ use Rattle.wire_write.proofs.append.Goals as goal
 
 pub returns-in-Err : goal.returns-in-Err
 returns-in-Err c =
-    cut_back (vec_items c.args.out.now) c.args.first.now c.args.second.now _ _ c.in-ok-extend-from-slice.ensures.items _ _
+    cut_back (vec_items c.args.out.now) c.args.first.now c.args.second.now _ _ c.in_ok-extend_from_slice.ensures.items _ _
     c.in-Err.ensures.items c.truncate.ensures.items (c.len-start.ensures ∙ c.args.out.now.ok.0)
 
 pub returns : goal.returns
 returns c =
-    both (vec_items c.args.out.now) c.args.first.now c.args.second.now _ _ c.in-ok-extend-from-slice.ensures.items
-    c.in-default.ensures.items
+    both (vec_items c.args.out.now) c.args.first.now c.args.second.now _ _ c.in_ok-extend_from_slice.ensures.items
+    c.in_default.ensures.items

@@ -2,4 +2,4 @@
 use Rattle.wire_write.proofs.write.Goals as goal
 
 pub returns-in-Packet : goal.returns-in-Packet
-returns-in-Packet c = rw c.in-Packet.is c.write-packet.ensures
+returns-in-Packet c = rw c.in-Packet.is c.write_packet.ensures

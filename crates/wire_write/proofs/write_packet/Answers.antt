@@ -6,4 +6,4 @@ pub returns : goal.returns
 returns c =
     let fit : length c.args.inside.now < 65536 = search rules in
     let same : c.in-Ok.length ≡ length c.args.inside.now = search rules in
-    (fit, rw (c.head-bytes.ensures, same) at c.in-ok-append.ensures)
+    (fit, rw (c.head_bytes.ensures, same) at c.in_ok-append.ensures)

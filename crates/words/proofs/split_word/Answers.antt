@@ -7,6 +7,6 @@ pub returns : goal.returns
 returns c =
     let line = c.args.line.now in
     record {
-      word = ap (λ n. take n line) (omega (arith, c.word-end-end.ensures.value));
-      rest = take_rest line c.word-end-end.result ∙ ap (λ n. drop n line) c.word-end-end.ensures.value;
+      word = ap (λ n. take n line) (omega (arith, c.word_end-end.ensures.value));
+      rest = take_rest line c.word_end-end.result ∙ ap (λ n. drop n line) c.word_end-end.ensures.value;
     }

@@ -49,7 +49,7 @@ buckets-preserved c =
     rw c.loop-i.invariant.0
     (keep_none ss c.buckets.assignment c.buckets.quota c.args.assignment.now c.args.quota.now c.buckets.b (omega arith) (omega arith)
     (λ k h e. ap (λ q. get_or q k 0) (sym c.loop-i.invariant.0) ∙ elim (cases_lt k c.loop-i.i) [
-      | inl l ↦ absurd (omega (arith, place_least 0 ss k c.requires.1 (λ i. omega (arith, c.type-inv.servers i)) h))
+      | inl l ↦ absurd (omega (arith, place_least 0 ss k c.requires.1 (λ i. omega (arith, c.type_inv.servers i)) h))
       | inr n ↦ c.loop-i.invariant.1 k n e
     ])
     c.buckets.invariant)

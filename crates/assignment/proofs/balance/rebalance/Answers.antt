@@ -9,19 +9,19 @@ use Rattle.assignment.proofs.Changes.{Fit}
 use Rattle.assignment.proofs.Best.{even, fewest}
 use Rattle.assignment.proofs.balance.rebalance.Goals as goal
 
-pub slice-bounds-quota-end : goal.slice-bounds-quota-end
-slice-bounds-quota-end c =
+pub slice_bounds-quota-end : goal.slice_bounds-quota-end
+slice_bounds-quota-end c =
     let ss = c.args.servers.now in
-    let up : rises ss ≡ true = sym c.is-rising.ensures ∙ c.if-not-is-rising.false in
-    let few = rises_length 0 ss up (λ i. omega (arith, c.type-inv.servers i)) (omega arith) in
+    let up : rises ss ≡ true = sym c.is_rising.ensures ∙ c.if-not-is_rising.false in
+    let few = rises_length 0 ss up (λ i. omega (arith, c.type_inv.servers i)) (omega arith) in
     omega arith
 
 pub returns : goal.returns
 returns c =
     let ss = c.args.servers.now in
     let xs = c.args.assignment.now in
-    let up : rises ss ≡ true = sym c.is-rising.ensures ∙ c.if-not-is-rising.false in
-    let fit : Fit ss = record { rise = up; real = λ i. omega (arith, c.type-inv.servers i) } in
+    let up : rises ss ≡ true = sym c.is_rising.ensures ∙ c.if-not-is_rising.false in
+    let fit : Fit ss = record { rise = up; real = λ i. omega (arith, c.type_inv.servers i) } in
     let some : 0 < length ss = grind (arith, nat_tests) in
     let e : c.balance.new.assignment ≡ rebalanced ss xs = c.balance.ensures in
     let good : is_buckets (length xs) ≡ true = grind (arith, nat_tests) in

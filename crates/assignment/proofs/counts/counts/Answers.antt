@@ -9,8 +9,8 @@ use Rattle.assignment.proofs.counts.counts.Goals.{then-server-lt-SERVERS, else-s
 pub loop-b-init : goal.loop-b-init
 loop-b-init c = (refl, λ s h. ap (λ n. n + count s c.args.assignment.now) (get_or-replicate 256 s 0 0 h) ∙ omega arith)
 
-pub overflow-add-counts : goal.overflow-add-counts
-overflow-add-counts c =
+pub overflow_add-counts : goal.overflow_add-counts
+overflow_add-counts c =
     let xs = c.args.assignment.now in
     let x = get_or xs c.loop-b.b 0 in
     omega (arith, c.loop-b.invariant.1 x (omega arith), count_le x xs, count_drop_le x xs c.loop-b.b (omega arith) refl)

@@ -6,7 +6,7 @@ use Rattle.std.specs.Option.{option_to_list}
 use Rattle.assignment.specs.Moves.{moves_from, comparable, handed}
 use Rattle.assignment.proofs.Handovers.{moves_again}
 use Rattle.assignment.proofs.moves.moves.Goals as goal
-use Rattle.assignment.proofs.moves.moves.Goals.{in-Some+in-ok-push, in-default}
+use Rattle.assignment.proofs.moves.moves.Goals.{in-Some+in_ok-push, in_default}
 
 pub loop-b-preserved : goal.loop-b-preserved
 loop-b-preserved c =
@@ -14,11 +14,11 @@ loop-b-preserved c =
     let ys = c.args.new.now in
     let b = c.loop-b.b in
     let done = vec_items c.loop-b.moves in
-    let items : vec_items c.match-hand-over.moves ≡ done ++ option_to_list (handed b (get_or xs b 0) (get_or ys b 0)) = elim c.match-hand-over.branch [
-      | in-Some+in-ok-push w ↦ ap vec_items w.moves-is ∙ (w.in-ok-push.ensures.items ∙ ap (λ o. done ++ option_to_list o) w.in-Some.ensures)
-      | in-default w ↦ ap vec_items w.moves-is ∙ (sym (append-nil done) ∙ ap (λ o. done ++ option_to_list o) w.in-default.ensures)
+    let items : vec_items c.match-hand_over.moves ≡ done ++ option_to_list (handed b (get_or xs b 0) (get_or ys b 0)) = elim c.match-hand_over.branch [
+      | in-Some+in_ok-push w ↦ ap vec_items w.moves-is ∙ (w.in_ok-push.ensures.items ∙ ap (λ o. done ++ option_to_list o) w.in-Some.ensures)
+      | in_default w ↦ ap vec_items w.moves-is ∙ (sym (append-nil done) ∙ ap (λ o. done ++ option_to_list o) w.in_default.ensures)
     ] in
-    moves_again done (vec_items c.match-hand-over.moves) (moves_from 0 xs ys) xs ys b (omega arith) (omega arith) items c.loop-b.invariant
+    moves_again done (vec_items c.match-hand_over.moves) (moves_from 0 xs ys) xs ys b (omega arith) (omega arith) items c.loop-b.invariant
 
 pub returns : goal.returns
 returns c =

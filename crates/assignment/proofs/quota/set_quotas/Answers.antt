@@ -4,7 +4,7 @@ use Rattle.std.proofs.lemmas.List.{take_more_set, map_more, take_all}
 use Rattle.std.proofs.lemmas.Bool.{lt-ltb, le-ltb}
 use Rattle.assignment.specs.Rule.{rank, quota_of}
 use Rattle.assignment.proofs.quota.set_quotas.Goals as goal
-use Rattle.assignment.proofs.quota.set_quotas.Goals.{then-ahead-of-rest, else-ahead-of-rest}
+use Rattle.assignment.proofs.quota.set_quotas.Goals.{then-ahead_of-rest, else-ahead_of-rest}
 
 pub loop-i-preserved : goal.loop-i-preserved
 loop-i-preserved c =
@@ -13,11 +13,11 @@ loop-i-preserved c =
     let i = c.loop-i.i in
     let f : ℕ → ℕ = quota_of (λ s. get_or c.args.counts.now s 0) ss c.args.buckets in
     let g : ℕ → ℕ = λ s. get_or c.args.counts.now s 0 in
-    let value : c.if-ahead-of-rest.quota ≡ f (get_or ss i 0) = elim c.if-ahead-of-rest.branch [
-      | then-ahead-of-rest w ↦ (let t = lt-ltb (rank g ss (get_or ss i 0)) (c.args.buckets % length ss) (omega (arith, c.ahead-of.ensures, w.if-ahead-of-rest.true)) in w.quota-is ∙ rw t)
-      | else-ahead-of-rest w ↦ (let t = le-ltb (rank g ss (get_or ss i 0)) (c.args.buckets % length ss) (omega (arith, c.ahead-of.ensures, w.if-ahead-of-rest.false)) in w.quota-is ∙ rw t (omega arith))
+    let value : c.if-ahead_of-rest.quota ≡ f (get_or ss i 0) = elim c.if-ahead_of-rest.branch [
+      | then-ahead_of-rest w ↦ (let t = lt-ltb (rank g ss (get_or ss i 0)) (c.args.buckets % length ss) (omega (arith, c.ahead_of.ensures, w.if-ahead_of-rest.true)) in w.quota-is ∙ rw t)
+      | else-ahead_of-rest w ↦ (let t = le-ltb (rank g ss (get_or ss i 0)) (c.args.buckets % length ss) (omega (arith, c.ahead_of.ensures, w.if-ahead_of-rest.false)) in w.quota-is ∙ rw t (omega arith))
     ] in
-    take_more_set q i c.if-ahead-of-rest.quota (omega arith) ∙ (rw (value, c.loop-i.invariant) (sym (map_more f ss i 0 (omega arith))))
+    take_more_set q i c.if-ahead_of-rest.quota (omega arith) ∙ (rw (value, c.loop-i.invariant) (sym (map_more f ss i 0 (omega arith))))
 
 pub returns : goal.returns
 returns c =

@@ -4,6 +4,6 @@ use Rattle.std.proofs.lemmas.List.{length-map}
 use Rattle.balancer.specs.Rules.{first_link}
 use Rattle.balancer.proofs.Balancer.new.Goals as goal
 
-pub invariant-of-result : goal.invariant-of-result
-invariant-of-result c =
-    (omega (arith, c.in-ok-links.links.ok.0, ap length c.in-ok-links.ensures, length-map c.args.assignment.now first_link), tt)
+pub invariant_of-result : goal.invariant_of-result
+invariant_of-result c =
+    record { one_each = omega (arith, c.in_ok-links.links.ok.0, ap length c.in_ok-links.ensures, length-map c.args.assignment.now first_link) }

@@ -8,5 +8,5 @@ use Rattle.balancer.proofs.Balancer.send_on.Goals as goal
 pub returns-in-Err : goal.returns-in-Err
 returns-in-Err c =
     packet_stopped (sends c.args.self.now.buckets.count (links_of c.args.self.now) c.args.packet.now) c.in-Err.error c.args.packet.now
-    (vec_items c.new-bytes.result) (vec_items c.dispatch.new.out) c.refuse-for.result (mails_of c.args.out.now) (mails_of c.refuse-for.new.out)
-    c.in-Err.ensures c.refuse-for.ensures
+    (vec_items c.new-bytes.result) (vec_items c.dispatch.new.out) c.refuse_for.result (mails_of c.args.out.now) (mails_of c.refuse_for.new.out)
+    c.in-Err.ensures c.refuse_for.ensures

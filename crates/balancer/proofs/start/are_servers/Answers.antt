@@ -11,5 +11,5 @@ loop-number-preserved c = servers_more c.args.numbers.now c.loop-number.number-i
 pub returns : goal.returns
 returns c = sym (ap are_servers (sym (take_all c.loop-number.number-index c.args.numbers.now (omega arith))) ∙ c.loop-number.invariant)
 
-pub returns-then-number-gt-LAST-SERVER : goal.returns-then-number-gt-LAST-SERVER
-returns-then-number-gt-LAST-SERVER c = sym (no_server c.args.numbers.now c.loop-number.number-index (omega arith) (omega arith))
+pub returns-then-number-gt-LAST_SERVER : goal.returns-then-number-gt-LAST_SERVER
+returns-then-number-gt-LAST_SERVER c = sym (no_server c.args.numbers.now c.loop-number.number-index (omega arith) (omega arith))

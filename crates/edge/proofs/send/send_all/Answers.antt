@@ -14,7 +14,7 @@ returns-in-Err c =
 pub loop-sent-preserved : goal.loop-sent-preserved
 loop-sent-preserved c =
     one_more (mails_of c.args.out.now) (mails_of c.loop-sent.out) (mails_of c.send.new.out) c.args.all.now c.loop-sent.sent-index _ (omega arith)
-    c.loop-sent.invariant c.in-default.ensures
+    c.loop-sent.invariant c.in_default.ensures
 
 pub returns : goal.returns
 returns c = c.loop-sent.invariant ∙ ap (λ l. mails_of c.args.out.now ++ map mail_in l) (take_all c.loop-sent.sent-index c.args.all.now (omega arith))

@@ -1,5 +1,5 @@
 -- The steps are the reversal, and the reversal turns each bit to its place.
-use Rattle.std.proofs.Common.{ℕ, ap, ◌∙◌, arith}
+use Rattle.std.proofs.Common.{ap, ◌∙◌, arith}
 use Rattle.flow.specs.Mix.{bit}
 use Rattle.flow.proofs.Reversal.{steps_reverse, bits_reverse}
 use Rattle.flow.proofs.reverse.reverse_bits.Goals as goal

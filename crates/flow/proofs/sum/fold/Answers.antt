@@ -1,5 +1,4 @@
 -- The mask is a remainder.
-use Rattle.std.proofs.Common.{arith, rules}
 use Rattle.std.proofs.lemmas.Nat.{and_mask}
 use Rattle.flow.proofs.sum.fold.Goals as goal
 

@@ -6,5 +6,5 @@ use Rattle.lines.proofs.write.line_text.Goals as goal
 
 pub returns : goal.returns
 returns c =
-    three (name_text c.args.machine) _ (hex_text c.args.bytes.now) (vec_items c.new-out.result) (vec_items c.push-name.new.out) (vec_items c.extend-from-slice.new.self)
-    (vec_items c.push-hex.new.out) c.new-out.ensures.items c.in-ok-push-name.ensures c.in-ok-extend-from-slice.ensures.items c.in-ok-push-hex.ensures
+    three (name_text c.args.machine) _ (hex_text c.args.bytes.now) (vec_items c.new-out.result) (vec_items c.push_name.new.out) (vec_items c.extend_from_slice.new.self)
+    (vec_items c.push_hex.new.out) c.new-out.ensures.items c.in_ok-push_name.ensures c.in_ok-extend_from_slice.ensures.items c.in_ok-push_hex.ensures

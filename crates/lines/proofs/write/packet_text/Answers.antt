@@ -6,5 +6,5 @@ use Rattle.lines.proofs.write.packet_text.Goals as goal
 
 pub returns : goal.returns
 returns c =
-    from_none _ (hex_text c.args.packet.now) (vec_items c.new-out.result) (vec_items c.extend-from-slice.new.self) (vec_items c.push-hex.new.out) c.new-out.ensures.items
-    c.in-ok-extend-from-slice.ensures.items c.in-ok-push-hex.ensures
+    from_none _ (hex_text c.args.packet.now) (vec_items c.new-out.result) (vec_items c.extend_from_slice.new.self) (vec_items c.push_hex.new.out) c.new-out.ensures.items
+    c.in_ok-extend_from_slice.ensures.items c.in_ok-push_hex.ensures

@@ -5,8 +5,8 @@ use Rattle.lines.proofs.write.push_hex.Goals as goal
 
 pub loop-byte-preserved : goal.loop-byte-preserved
 loop-byte-preserved c =
-    byte_turn _ (vec_items c.loop-byte.out) (vec_items c.extend-from-slice.new.self) c.args.bytes.now c.loop-byte.byte-index _ _ (omega arith)
-    c.hex-digit.ensures c.hex-digit-in-loop-byte.ensures c.in-ok-extend-from-slice.ensures.items c.loop-byte.invariant
+    byte_turn _ (vec_items c.loop-byte.out) (vec_items c.extend_from_slice.new.self) c.args.bytes.now c.loop-byte.byte-index _ _ (omega arith)
+    c.hex_digit.ensures c.hex_digit-in-loop-byte.ensures c.in_ok-extend_from_slice.ensures.items c.loop-byte.invariant
 
 pub returns : goal.returns
 returns c = bytes_end _ (vec_items c.loop-byte.out) c.args.bytes.now c.loop-byte.byte-index (omega arith) c.loop-byte.invariant

@@ -4,7 +4,7 @@ use Rattle.std.proofs.lemmas.List.{append-nil, drop_all}
 use Rattle.roster.specs.Listing.{among}
 use Rattle.roster.proofs.Walk.{walk_yes, walk_no}
 use Rattle.roster.proofs.list.extend_within.Goals as goal
-use Rattle.roster.proofs.list.extend_within.Goals.{then-is-within+in-ok-push, else-is-within}
+use Rattle.roster.proofs.list.extend_within.Goals.{then-is_within+in_ok-push, else-is_within}
 
 pub loop-server-preserved : goal.loop-server-preserved
 loop-server-preserved c =
@@ -13,12 +13,12 @@ loop-server-preserved c =
     let ss = c.args.servers.now in
     let i = c.loop-server.server-index in
     let rest = drop (c.loop-server.server-index + 1) c.args.servers.now in
-    elim c.if-is-within.branch [
-      | then-is-within+in-ok-push w ↦
-          ap (λ v. vec_items v ++ among a b rest) w.list-is ∙ (ap (λ o. o ++ among a b rest) w.in-ok-push.ensures.items
-          ∙ (walk_yes a b (vec_items c.loop-server.list) ss i _ (omega arith) (sym w.if-is-within.ensures) ∙ c.loop-server.invariant))
-      | else-is-within w ↦
-          ap (λ v. vec_items v ++ among a b rest) w.list-is ∙ (walk_no a b (vec_items c.loop-server.list) ss i _ (omega arith) (sym w.if-is-within.ensures) ∙ c.loop-server.invariant)
+    elim c.if-is_within.branch [
+      | then-is_within+in_ok-push w ↦
+          ap (λ v. vec_items v ++ among a b rest) w.list-is ∙ (ap (λ o. o ++ among a b rest) w.in_ok-push.ensures.items
+          ∙ (walk_yes a b (vec_items c.loop-server.list) ss i _ (omega arith) (sym w.if-is_within.ensures) ∙ c.loop-server.invariant))
+      | else-is_within w ↦
+          ap (λ v. vec_items v ++ among a b rest) w.list-is ∙ (walk_no a b (vec_items c.loop-server.list) ss i _ (omega arith) (sym w.if-is_within.ensures) ∙ c.loop-server.invariant)
     ]
 
 pub returns : goal.returns

@@ -4,5 +4,5 @@ use Rattle.roster.proofs.roster.unassigned.Goals as goal
 
 pub returns : goal.returns
 returns c =
-    let e = c.in-ok-resize.ensures in
+    let e = c.in_ok-resize.ensures in
     (none_is c.args.buckets _ _ _ c.new-assignment.ensures.items c.new-assignment.ensures.len e.items, e.len)

@@ -20,7 +20,7 @@ loop-farewell-preserved c =
     let i = c.loop-farewell.farewell-index in
     let f = get_or fs i blank in
     let m : due_in b t (drop i fs) ≡ cond (is_due t f.age) (says b f) [] ++ due_in b t (drop (i + 1) fs) = at_drop_more (due_in b t) fs i blank (omega arith) in
-    (rest_more (sent_of c.loop-farewell.out) (sent_of c.say-if-due.new.out) (cond (is_due t f.age) (says b f) []) (due_in b t (drop i fs)) (due_in b t (drop (i + 1) fs)) _ c.say-if-due.ensures.items m c.loop-farewell.invariant.0, omega (arith, c.say-if-due.ensures.room, c.loop-farewell.invariant.1))
+    (rest_more (sent_of c.loop-farewell.out) (sent_of c.say_if_due.new.out) (cond (is_due t f.age) (says b f) []) (due_in b t (drop i fs)) (due_in b t (drop (i + 1) fs)) _ c.say_if_due.ensures.items m c.loop-farewell.invariant.0, omega (arith, c.say_if_due.ensures.room, c.loop-farewell.invariant.1))
 
 pub returns : goal.returns
 unfolding due_in

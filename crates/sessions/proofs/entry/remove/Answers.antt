@@ -5,7 +5,7 @@ use Rattle.sessions.proofs.entry.remove.Goals as goal
 
 pub returns-in-Some : goal.returns-in-Some
 returns-in-Some c =
-    let m = rw c.as-slice.ensures.value at c.in-Some.ensures in
+    let m = rw c.as_slice.ensures.value at c.in-Some.ensures in
     record {
       found = sym (ap is_some (seen_hit c.args.key.now (vec_items c.args.entries.now) c.in-Some.i m (record { key = c.args.key.now; seen = 0 })));
       after = c.remove.ensures.items ∙ without_hit c.args.key.now (vec_items c.args.entries.now) c.in-Some.i m;
@@ -13,5 +13,5 @@ returns-in-Some c =
 
 pub returns-in-None : goal.returns-in-None
 returns-in-None c =
-    let m = seen_miss c.args.key.now (vec_items c.args.entries.now) (rw c.as-slice.ensures.value at c.in-None.ensures) in
+    let m = seen_miss c.args.key.now (vec_items c.args.entries.now) (rw c.as_slice.ensures.value at c.in-None.ensures) in
     record { found = sym (ap is_some m); after = sym (without_miss c.args.key.now (vec_items c.args.entries.now) m) }

@@ -7,8 +7,8 @@ use Rattle.sessions.proofs.Sums.{tally_here, tally_other}
 use Rattle.sessions.proofs.tally.count.Goals as goal
 use Rattle.sessions.proofs.tally.count.Goals.{then-t-place, else-t-place}
 
-pub overflow-add-sum : goal.overflow-add-sum
-overflow-add-sum c =
+pub overflow_add-sum : goal.overflow_add-sum
+overflow_add-sum c =
     let t = get_or c.args.tallies.now c.loop-t.t-index (record { place = 0; count = 0 }) in
     omega (
       arith,

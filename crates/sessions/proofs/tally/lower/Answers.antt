@@ -4,14 +4,14 @@ use Rattle.sessions.specs.Tallies.{tallied_in}
 use Rattle.sessions.proofs.Sums.{lowered_set, lowered_removed, lowered_none}
 use Rattle.sessions.proofs.tally.lower.Goals as goal
 
-pub returns-in-default : goal.returns-in-default
-returns-in-default c q = lowered_none c.args.place (vec_items c.args.tallies.now) (rw c.as-slice.ensures.value at c.in-default.ensures) q
+pub returns-in_default : goal.returns-in_default
+returns-in_default c q = lowered_none c.args.place (vec_items c.args.tallies.now) (rw c.as_slice.ensures.value at c.in_default.ensures) q
 
 pub returns-then-count-gt1 : goal.returns-then-count-gt1
 returns-then-count-gt1 c q =
-    lowered_set c.args.place (vec_items c.args.tallies.now) c.in-Some.i c.index.result.now (rw c.as-slice.ensures.value at c.in-Some.ensures) c.index.ensures q
+    lowered_set c.args.place (vec_items c.args.tallies.now) c.in-Some.i c.index.result.now (rw c.as_slice.ensures.value at c.in-Some.ensures) c.index.ensures q
 
 pub returns-else-count-gt1 : goal.returns-else-count-gt1
 returns-else-count-gt1 c q =
     ap (tallied_in q) c.remove.ensures.items
-    ∙ lowered_removed c.args.place (vec_items c.args.tallies.now) c.in-Some.i c.index.result.now (rw c.as-slice.ensures.value at c.in-Some.ensures) c.index.ensures (omega arith) q
+    ∙ lowered_removed c.args.place (vec_items c.args.tallies.now) c.in-Some.i c.index.result.now (rw c.as_slice.ensures.value at c.in-Some.ensures) c.index.ensures (omega arith) q

@@ -4,8 +4,8 @@ use Rattle.wire.specs.Format.{four}
 use Rattle.wire.proofs.Numbers.{number_cut, number_here}
 use Rattle.wire_packet.proofs.number.split32.Goals as goal
 
-pub returns-in-default : goal.returns-in-default
-returns-in-default c = number_cut four c.args.bytes.now (search rules)
+pub returns-in_default : goal.returns-in_default
+returns-in_default c = number_cut four c.args.bytes.now (search rules)
 
 pub returns : goal.returns
 returns c = number_here four c.args.bytes.now _ (search rules) (search rules)

@@ -1,5 +1,5 @@
 -- The places passed so far are above.
-use Rattle.std.proofs.Common.{◌≡◌, ◌<◌, ◌≤◌, length, get_or, take, drop, sym, ap, ◌∙◌, add-one, arith}
+use Rattle.std.proofs.Common.{length, ap, add-one, arith}
 use Rattle.std.proofs.lemmas.List.{length-take-le, drop_all}
 use Rattle.chain.specs.Controllers.{above}
 use Rattle.chain.specs.Kept.{links_of}

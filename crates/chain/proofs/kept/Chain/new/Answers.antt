@@ -3,6 +3,6 @@ use Rattle.std.proofs.Common.{refl, arith}
 use Rattle.chain.specs.Falls.{falls}
 use Rattle.chain.proofs.kept.Chain.new.Goals as goal
 
-pub invariant-of-result : goal.invariant-of-result
+pub invariant_of-result : goal.invariant_of-result
 unfolding falls
-invariant-of-result c = (omega arith, (omega arith, (refl, (refl, (refl, tt)))))
+invariant_of-result c = record { some = omega arith; most = omega arith; eight = refl; falling = refl; awaited = refl }

@@ -5,11 +5,11 @@ use Rattle.controller_bucket.specs.Rules.{charge_first}
 use Rattle.controller_bucket.specs.Kept.{charge}
 use Rattle.controller.proofs.kept.Controller.new.Goals as goal
 
-pub invariant-of-result : goal.invariant-of-result
-invariant-of-result c =
-    let r = c.in-ok-roster.ensures in
-    let v = c.in-ok-charges.charges in
-    let e = ap length c.in-ok-charges.ensures in (
+pub invariant_of-result : goal.invariant_of-result
+invariant_of-result c =
+    let r = c.in_ok-roster.ensures in
+    let v = c.in_ok-charges.charges in
+    let e = ap length c.in_ok-charges.ensures in (
       omega (arith, v.ok.0, e, length-map (vec_items v) charge, length-map c.assignment.result.now charge_first, ap length c.assignment.ensures, r.3.0, c.count.ensures),
-      (c.in-ok-resize.ensures.len, ((omega (arith, r.3.0, c.count.ensures), r.3.1), tt)),
+      (c.in_ok-resize.ensures.len, ((omega (arith, r.3.0, c.count.ensures), r.3.1), tt)),
     )

@@ -12,7 +12,7 @@ pub returns : goal.returns
 returns c =
     let k = ruling c.args.self.now in
     let b = c.remove.new.self in
-    let same = with_items_is c.args.self.now.charges c.begin-all.new.charges (omega (arith, c.as-mut-slice.ensures.len, c.begin-all.auto.charges)) in
-    let g = begun_as k (assignment_of b) _ _ _ (sent_of c.args.out.now) (sent_of c.make-room.new.self) (sent_of c.begin-all.new.out) c.assignment.ensures (ap (map charge) c.as-mut-slice.ensures.value) c.make-room.ensures.same
-    (ap (map charge) same ∙ c.begin-all.ensures.charges) c.begin-all.ensures.sent in
-    removed_did c.args.server k c.args.self.now.roster b c.in-default.field-0 _ (sent_of c.args.out.now) (sent_of c.begin-all.new.out) c.in-default.ensures refl refl g.0 g.1
+    let same = with_items_is c.args.self.now.charges c.begin_all.new.charges (omega (arith, c.as_mut_slice.ensures.len, c.begin_all.auto.charges)) in
+    let g = begun_as k (assignment_of b) _ _ _ (sent_of c.args.out.now) (sent_of c.make_room.new.self) (sent_of c.begin_all.new.out) c.assignment.ensures (ap (map charge) c.as_mut_slice.ensures.value) c.make_room.ensures.same
+    (ap (map charge) same ∙ c.begin_all.ensures.charges) c.begin_all.ensures.sent in
+    removed_did c.args.server k c.args.self.now.roster b c.in_default.field-0 _ (sent_of c.args.out.now) (sent_of c.begin_all.new.out) c.in_default.ensures refl refl g.0 g.1

@@ -9,13 +9,13 @@ use Rattle.controller.proofs.Ruled.{later_is, due_is}
 use Rattle.flow.proofs.Powers.{counted}
 use Rattle.controller.proofs.kept.Controller.ticks.Goals as goal
 
-pub say-due-requires : goal.say-due-requires
-say-due-requires c = omega (arith, c.as-slice.ensures.len, c.args.self.now.one_each, counted c.args.self.now.buckets.count c.args.self.now.buckets.ok)
+pub say_due-requires : goal.say_due-requires
+say_due-requires c = omega (arith, c.as_slice.ensures.len, c.args.self.now.one_each, counted c.args.self.now.buckets.count c.args.self.now.buckets.ok)
 
 pub returns : goal.returns
 returns c =
     let k = ruling c.args.self.now in
-    let same = with_items_is c.args.self.now.charges c.pass.new.charges (omega (arith, c.as-mut-slice.ensures.len, c.pass.auto.charges)) in (
-      later_is k c.args.count _ _ (ap (map charge) same ∙ (c.pass.ensures ∙ ap (λ cs. map (bucket.passed c.args.count) (map charge cs)) c.as-mut-slice.ensures.value)) c.in-Some.ensures,
-      due_is k c.args.count (map charge c.as-slice.result.now) (sent_of c.args.out.now) _ (ap (map charge) c.as-slice.ensures.value) c.in-default-say-due.ensures,
+    let same = with_items_is c.args.self.now.charges c.pass.new.charges (omega (arith, c.as_mut_slice.ensures.len, c.pass.auto.charges)) in (
+      later_is k c.args.count _ _ (ap (map charge) same ∙ (c.pass.ensures ∙ ap (λ cs. map (bucket.passed c.args.count) (map charge cs)) c.as_mut_slice.ensures.value)) c.in-Some.ensures,
+      due_is k c.args.count (map charge c.as_slice.result.now) (sent_of c.args.out.now) _ (ap (map charge) c.as_slice.ensures.value) c.in_default-say_due.ensures,
     )

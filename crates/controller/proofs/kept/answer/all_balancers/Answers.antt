@@ -10,4 +10,4 @@ loop-balancer-init c = (c.new-balancers.ensures.items, c.new-balancers.ensures.l
 
 pub loop-balancer-preserved : goal.loop-balancer-preserved
 loop-balancer-preserved c =
-    (ups_more c.loop-balancer.balancer _ _ c.loop-balancer.invariant.0 c.in-ok-push.ensures.items, omega (arith, c.in-ok-push.ensures.len, c.loop-balancer.invariant.1))
+    (ups_more c.loop-balancer.balancer _ _ c.loop-balancer.invariant.0 c.in_ok-push.ensures.items, omega (arith, c.in_ok-push.ensures.len, c.loop-balancer.invariant.1))

@@ -10,8 +10,8 @@ loop-b-preserved c =
     let cs = c.loop-b.charges in
     let b = c.loop-b.b in
     let x = c.index-charges-b.result in (
-      begun_said ns cs b x c.begun.new.self c.server-at.result (sent_of c.loop-b.out) _ (omega (arith, c.loop-b.invariant.2)) (omega (arith, c.requires.0)) c.server-at.ensures c.begun.ensures.goes.1 ∙ c.loop-b.invariant.0,
-      begun_more ns cs b x c.begun.new.self c.server-at.result (omega (arith, c.loop-b.invariant.2)) (omega (arith, c.requires.0)) c.server-at.ensures c.begun.ensures.goes.0 ∙ c.loop-b.invariant.1,
+      begun_said ns cs b x c.begun.new.self c.server_at.result (sent_of c.loop-b.out) _ (omega (arith, c.loop-b.invariant.2)) (omega (arith, c.requires.0)) c.server_at.ensures c.begun.ensures.goes.1 ∙ c.loop-b.invariant.0,
+      begun_more ns cs b x c.begun.new.self c.server_at.result (omega (arith, c.loop-b.invariant.2)) (omega (arith, c.requires.0)) c.server_at.ensures c.begun.ensures.goes.0 ∙ c.loop-b.invariant.1,
       simp length-set c.loop-b.invariant.2,
       omega (arith, c.loop-b.invariant.3, c.begun.ensures.room),
     )

@@ -12,8 +12,8 @@ loop-b-init c = (refl, take_all (length (sent_of c.args.out.now)) (sent_of c.arg
 
 pub loop-b-preserved : goal.loop-b-preserved
 loop-b-preserved c = (
-  due_more c.args.ticks c.args.charges.now c.loop-b.b c.index-charges-b.result (sent_of c.loop-b.out) _ (omega arith) (subst (λ x. sent_of c.due.new.out ≡ sent_of c.loop-b.out ++ bucket.due c.loop-b.b c.args.ticks (charge x)) c.index-charges-b.is c.in-ok-due.ensures) ∙ c.loop-b.invariant.0,
-  ap (take (length (sent_of c.args.out.now))) c.in-ok-due.ensures ∙ front_more (sent_of c.args.out.now) (sent_of c.loop-b.out) _ c.loop-b.invariant.1,
+  due_more c.args.ticks c.args.charges.now c.loop-b.b c.index-charges-b.result (sent_of c.loop-b.out) _ (omega arith) (subst (λ x. sent_of c.due.new.out ≡ sent_of c.loop-b.out ++ bucket.due c.loop-b.b c.args.ticks (charge x)) c.index-charges-b.is c.in_ok-due.ensures) ∙ c.loop-b.invariant.0,
+  ap (take (length (sent_of c.args.out.now))) c.in_ok-due.ensures ∙ front_more (sent_of c.args.out.now) (sent_of c.loop-b.out) _ c.loop-b.invariant.1,
 )
 
 pub returns : goal.returns

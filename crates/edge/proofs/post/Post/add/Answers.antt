@@ -5,4 +5,4 @@ use Rattle.edge.specs.Posts.{mail_of}
 use Rattle.edge.proofs.post.Post.add.Goals as goal
 
 pub returns : goal.returns
-returns c = ap (map mail_of) c.in-ok-push.ensures.items ∙ map-append mail_of (vec_items c.args.self.now.posted) _
+returns c = ap (map mail_of) c.in_ok-push.ensures.items ∙ map-append mail_of (vec_items c.args.self.now.posted) _

@@ -1,5 +1,5 @@
 -- The halves of the address are quotient and remainder; there is a bucket at least.
-use Rattle.std.proofs.Common.{◌≡◌, ℕ, ◌+◌, ◌/◌, ◌%◌, ap, ◌∙◌, arith}
+use Rattle.std.proofs.Common.{◌≡◌, ◌+◌, ◌/◌, ◌%◌, ap, ◌∙◌, arith}
 use Rattle.std.proofs.lemmas.Nat.{and_mask, mod_below}
 use Rattle.flow.specs.Buckets.{bucket_of}
 use Rattle.flow.specs.Key.{protocol_number}
@@ -7,8 +7,8 @@ use Rattle.flow.specs.Mix.{ones_sum, reversed}
 use Rattle.flow.proofs.Powers.{counted}
 use Rattle.flow.proofs.key.FlowKey.bucket.Goals as goal
 
-pub nonzero-rem-result : goal.nonzero-rem-result
-nonzero-rem-result c = omega (arith, counted c.args.buckets.count c.args.buckets.ok)
+pub nonzero_rem-result : goal.nonzero_rem-result
+nonzero_rem-result c = omega (arith, counted c.args.buckets.count c.args.buckets.ok)
 
 pub returns : goal.returns
 unfolding bucket_of
@@ -16,9 +16,9 @@ returns c =
     let f = c.args.self in
     let n = c.args.buckets.count in
     let low = and_mask f.src 16 in
-    let s : c.ones-sum-sum.result ≡ ones_sum (f.src / 65536 + f.src % 65536 + f.sport + protocol_number f.protocol) =
-    c.ones-sum-sum.ensures.value ∙ ap ones_sum (omega arith) in
+    let s : c.ones_sum-sum.result ≡ ones_sum (f.src / 65536 + f.src % 65536 + f.sport + protocol_number f.protocol) =
+    c.ones_sum-sum.ensures.value ∙ ap ones_sum (omega arith) in
     record {
-      value = ap (λ x. x % n) (c.from-2.ensures ∙ (c.reverse-bits.ensures.value ∙ ap reversed s));
+      value = ap (λ x. x % n) (c.from-2.ensures ∙ (c.reverse_bits.ensures.value ∙ ap reversed s));
       below = mod_below c.from-2.result n (omega (arith, counted n c.args.buckets.ok));
     }

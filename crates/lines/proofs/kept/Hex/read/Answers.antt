@@ -13,13 +13,13 @@ returns-in-Err c =
 
 pub loop-c-preserved : goal.loop-c-preserved
 loop-c-preserved c =
-    sym (digit_turn (part_of c.loop-c.hex) (part_of c.next.new.self) c.args.digits.now c.loop-c.c-index c.in-default.field-0 (omega arith) c.in-default.ensures)
+    sym (digit_turn (part_of c.loop-c.hex) (part_of c.next.new.self) c.args.digits.now c.loop-c.c-index c.in_default.field-0 (omega arith) c.in_default.ensures)
     ∙ c.loop-c.invariant
 
-pub returns-then-is-some : goal.returns-then-is-some
-returns-then-is-some c =
-    subst (λ q. Reads q (Err (Of Malformed))) (sym (end_alone (part_of c.loop-c.hex) c.args.digits.now c.loop-c.c-index (omega arith) c.if-is-some.ensures) ∙ c.loop-c.invariant) refl
+pub returns-then-is_some : goal.returns-then-is_some
+returns-then-is_some c =
+    subst (λ q. Reads q (Err (Of Malformed))) (sym (end_alone (part_of c.loop-c.hex) c.args.digits.now c.loop-c.c-index (omega arith) c.if-is_some.ensures) ∙ c.loop-c.invariant) refl
 
 pub returns : goal.returns
 returns c =
-    subst (λ q. Reads q (Ok c.loop-c.hex.done)) (sym (end_whole (part_of c.loop-c.hex) c.args.digits.now c.loop-c.c-index (omega arith) c.if-is-some.ensures) ∙ c.loop-c.invariant) refl
+    subst (λ q. Reads q (Ok c.loop-c.hex.done)) (sym (end_whole (part_of c.loop-c.hex) c.args.digits.now c.loop-c.c-index (omega arith) c.if-is_some.ensures) ∙ c.loop-c.invariant) refl

@@ -4,4 +4,4 @@ use Rattle.places.proofs.Turned.{turned}
 use Rattle.places.proofs.kept.Places.push.Goals as goal
 
 pub returns : goal.returns
-returns c = rw (c.rotate-right.ensures.after, turned c.args.place c.args.self.now.standing c.args.self.now.count (omega arith)) refl
+returns c = rw (c.rotate_right.ensures.after, turned c.args.place c.args.self.now.standing c.args.self.now.count (omega arith)) refl

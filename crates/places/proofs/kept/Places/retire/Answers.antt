@@ -26,18 +26,18 @@ returns-then-oldest-number c =
     let t : eqb c.args.number (oldest was).link.place ≡ false = grind (arith, nat_tests) in
     rw (o, t) refl
 
-pub returns-in-err-gone : goal.returns-in-err-gone
-returns-in-err-gone c =
+pub returns-in_err-gone : goal.returns-in_err-gone
+returns-in_err-gone c =
     let was = c.args.self.now in
     let o = oldest_held was.standing was.count blank (omega arith) (omega arith) in
     let t : eqb c.args.number (oldest was).link.place ≡ true = grind (arith, nat_tests) in
-    let f : forgets c.args.empty (oldest was) ≡ None = sym c.forget.ensures ∙ c.in-err-gone.was in
-    rw (c.from-residual.ensures, o, t, f) refl
+    let f : forgets c.args.empty (oldest was) ≡ None = sym c.forget.ensures ∙ c.in_err-gone.was in
+    rw (c.from_residual.ensures, o, t, f) refl
 
 pub returns-in-Forgotten : goal.returns-in-Forgotten
 returns-in-Forgotten c =
     let was = c.args.self.now in
     let o = oldest_held was.standing was.count blank (omega arith) (omega arith) in
     let t : eqb c.args.number (oldest was).link.place ≡ true = grind (arith, nat_tests) in
-    let f : forgets c.args.empty (oldest was) ≡ Some c.in-ok-gone.gone = sym c.forget.ensures ∙ c.in-ok-gone.was in
+    let f : forgets c.args.empty (oldest was) ≡ Some c.in_ok-gone.gone = sym c.forget.ensures ∙ c.in_ok-gone.was in
     rw (c.remember.ensures, o, t, f, c.in-Forgotten.is, but_last was.standing was.count (omega arith)) refl

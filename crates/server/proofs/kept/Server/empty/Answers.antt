@@ -25,15 +25,15 @@ returns-then-from-len c =
 pub returns : goal.returns
 returns c =
     let was = c.args.self.now in
-    let s = c.index-mut.result.now in
-    let e = c.emptied-gone.ensures ∙ ap (λ q. bucket.emptied c.args.place q (holding s)) c.is-empty-empty.ensures in
+    let s = c.index_mut.result.now in
+    let e = c.emptied-gone.ensures ∙ ap (λ q. bucket.emptied c.args.place q (holding s)) c.is_empty-empty.ensures in
     record {
       sent =
           emptied_sends was.number (ticks_of was.clock) was.stood c.args.bucket c.args.place (sessions_of was) (vec_items was.held) s c.emptied-gone.new.self c.emptied-gone.result _ _
-          (omega (arith, was.held.ok.0)) (rw (sym c.from-2.ensures) c.index-mut.ensures.value) e c.tell.ensures.items;
+          (omega (arith, was.held.ok.0)) (rw (sym c.from-2.ensures) c.index_mut.ensures.value) e c.tell.ensures.items;
       kept =
           emptied_keeps was.number (ticks_of was.clock) was.stood c.args.bucket c.args.place (sessions_of was) (vec_items was.held) s c.emptied-gone.new.self c.emptied-gone.result _
-          (omega (arith, was.held.ok.0)) (rw (sym c.from-2.ensures) c.index-mut.ensures.value) e (rw (sym c.from-2.ensures) c.leave.ensures.kept);
+          (omega (arith, was.held.ok.0)) (rw (sym c.from-2.ensures) c.index_mut.ensures.value) e (rw (sym c.from-2.ensures) c.leave.ensures.kept);
       sessions = c.leave.ensures.sessions;
       room = c.tell.ensures.room;
     }

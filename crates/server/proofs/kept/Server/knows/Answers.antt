@@ -10,4 +10,4 @@ returns-then-from-len c = none_held (vec_items c.args.self.now.held) c.args.buck
 pub returns : goal.returns
 returns c =
     let f = held_at (vec_items c.args.self.now.held) c.args.bucket c.index.result.now (omega (arith, c.args.self.now.held.ok.0)) (rw (sym c.from-2.ensures) c.index.ensures) in
-    rw (f, sym c.find.ensures) c.is-some.ensures
+    rw (f, sym c.find.ensures) c.is_some.ensures

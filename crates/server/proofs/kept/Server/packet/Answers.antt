@@ -12,6 +12,6 @@ pub returns : goal.returns
 returns c =
     let e = within_buckets (vec_items c.args.self.now.held) c.args.head.bucket (omega (arith, c.args.self.now.held.ok.0)) in
     record {
-      passes = rw (e, sym c.place-place.ensures, sym c.entry.ensures, sym c.handle-outcome.ensures) (refl, c.hint.ensures, c.in-ok-note.ensures.done);
+      passes = rw (e, sym c.place-place.ensures, sym c.entry.ensures, sym c.handle-outcome.ensures) (refl, c.hint.ensures, c.in_ok-note.ensures.done);
       same = c.note.ensures.same;
     }

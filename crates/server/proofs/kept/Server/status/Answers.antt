@@ -6,8 +6,8 @@ use Rattle.server.specs.Status.{busy_in}
 use Rattle.server.proofs.Noted.{buckets_more, buckets_all}
 use Rattle.server.proofs.kept.Server.status.Goals as goal
 
-pub overflow-cast-i : goal.overflow-cast-i
-overflow-cast-i c =
+pub overflow_cast-i : goal.overflow_cast-i
+overflow_cast-i c =
     let was = c.args.self.now in
     let b = counted was.buckets.count was.buckets.ok in
     let small : c.loop-i.i < 65536 = omega (arith, was.one_each, b.1, c.len-i-end.ensures) in
@@ -16,8 +16,8 @@ overflow-cast-i c =
 pub loop-i-preserved : goal.loop-i-preserved
 loop-i-preserved c =
     let was = c.args.self.now in
-    buckets_more c.loop-i.i (sessions_of was) (vec_items was.held) c.index.result.now (vec_items c.loop-i.busy) (vec_items c.note-bucket.new.busy) _ (omega (arith, was.held.ok.0))
-    c.index.ensures (c.in-ok-note-bucket.ensures ∙ ap (λ xs. vec_items c.loop-i.busy ++ busy_in c.loop-i.i (sessions_of was) xs) c.standing.ensures) c.loop-i.invariant
+    buckets_more c.loop-i.i (sessions_of was) (vec_items was.held) c.index.result.now (vec_items c.loop-i.busy) (vec_items c.note_bucket.new.busy) _ (omega (arith, was.held.ok.0))
+    c.index.ensures (c.in_ok-note_bucket.ensures ∙ ap (λ xs. vec_items c.loop-i.busy ++ busy_in c.loop-i.i (sessions_of was) xs) c.standing.ensures) c.loop-i.invariant
 
 pub returns : goal.returns
 returns c =

@@ -11,19 +11,19 @@ use Rattle.server.specs.Kept.{sessions_of}
 use Rattle.server.proofs.Told.{put_more, changed_did, changed_not}
 use Rattle.server.proofs.kept.Server.told_behind.Goals as goal
 
-pub returns-in-err-gone : goal.returns-in-err-gone
-returns-in-err-gone c =
-    let p = err_from_is_err_and c.from-residual-in-err-gone.result c.from-residual-in-err-gone.ensures.1 in
+pub returns-in_err-gone : goal.returns-in_err-gone
+returns-in_err-gone c =
+    let p = err_from_is_err_and c.from_residual-in_err-gone.result c.from_residual-in_err-gone.ensures.1 in
     let was = c.args.self.now in
     let empty = is_empty c.args.bucket c.args.place (sessions_of was) in
     let rule = behind c.args.place c.args.after empty in
-    let s = c.index-mut.result.now in
-    let e = c.in-err-gone.ensures ∙ ap (λ q. behind c.args.place c.args.after q (holding s)) c.is-empty-empty.ensures in
+    let s = c.index_mut.result.now in
+    let e = c.in_err-gone.ensures ∙ ap (λ q. behind c.args.place c.args.after q (holding s)) c.is_empty-empty.ensures in
     record {
       did = rw (p.1, p.2, c.from.ensures)
           (changed_not rule c.args.from _ was.number (ticks_of was.clock) was.stood c.args.bucket c.args.place (vec_items was.held) s c.behind.new.self _ _ _
-          (omega (arith, was.held.ok.0)) (rw (sym c.from.ensures) c.index-mut.ensures.value) e
-          (behind_refused c.args.place c.args.after empty (holding s) (holding c.behind.new.self) _ e) c.make-room.ensures.same);
+          (omega (arith, was.held.ok.0)) (rw (sym c.from.ensures) c.index_mut.ensures.value) e
+          (behind_refused c.args.place c.args.after empty (holding s) (holding c.behind.new.self) _ e) c.make_room.ensures.same);
       sessions = refl;
     }
 
@@ -31,12 +31,12 @@ pub returns : goal.returns
 returns c =
     let was = c.args.self.now in
     let rule = behind c.args.place c.args.after (is_empty c.args.bucket c.args.place (sessions_of was)) in
-    let s = c.index-mut.result.now in
-    let e = c.in-ok-gone.ensures ∙ ap (λ q. behind c.args.place c.args.after q (holding s)) c.is-empty-empty.ensures in
+    let s = c.index_mut.result.now in
+    let e = c.in_ok-gone.ensures ∙ ap (λ q. behind c.args.place c.args.after q (holding s)) c.is_empty-empty.ensures in
     record {
       did =
-          (changed_did rule c.args.from _ was.number (ticks_of was.clock) was.stood c.args.bucket c.args.place (vec_items was.held) s c.behind.new.self c.in-ok-gone.gone _ _ _
-          (omega (arith, was.held.ok.0)) (rw (sym c.from.ensures) c.index-mut.ensures.value) e
-          (rw (sym c.from.ensures) c.leave.ensures.kept) (put_more (sent_of c.args.out.now) (sent_of c.make-room.new.self) (sent_of c.put.new.self) (sent_of c.tell.new.out) _ _ c.make-room.ensures.same c.put.ensures.items c.tell.ensures.items));
+          (changed_did rule c.args.from _ was.number (ticks_of was.clock) was.stood c.args.bucket c.args.place (vec_items was.held) s c.behind.new.self c.in_ok-gone.gone _ _ _
+          (omega (arith, was.held.ok.0)) (rw (sym c.from.ensures) c.index_mut.ensures.value) e
+          (rw (sym c.from.ensures) c.leave.ensures.kept) (put_more (sent_of c.args.out.now) (sent_of c.make_room.new.self) (sent_of c.put.new.self) (sent_of c.tell.new.out) _ _ c.make_room.ensures.same c.put.ensures.items c.tell.ensures.items));
       sessions = c.leave.ensures.sessions;
     }

@@ -12,19 +12,19 @@ use Rattle.server.specs.Kept.{sessions_of}
 use Rattle.server.proofs.Told.{put_more, changed_did, changed_not}
 use Rattle.server.proofs.kept.Server.told_forgotten.Goals as goal
 
-pub returns-in-err-gone : goal.returns-in-err-gone
-returns-in-err-gone c =
-    let p = err_from_is_err_and c.from-residual-in-err-gone.result c.from-residual-in-err-gone.ensures.1 in
+pub returns-in_err-gone : goal.returns-in_err-gone
+returns-in_err-gone c =
+    let p = err_from_is_err_and c.from_residual-in_err-gone.result c.from_residual-in_err-gone.ensures.1 in
     let was = c.args.self.now in
     let empty = is_empty c.args.bucket c.args.after.place (sessions_of was) in
     let rule = freed c.args.after.place c.args.place empty in
-    let s = c.index-mut.result.now in
-    let e = c.in-err-gone.ensures ∙ ap (λ q. freed c.args.after.place c.args.place q (holding s)) c.is-empty-empty.ensures in
+    let s = c.index_mut.result.now in
+    let e = c.in_err-gone.ensures ∙ ap (λ q. freed c.args.after.place c.args.place q (holding s)) c.is_empty-empty.ensures in
     record {
       did = rw (p.1, p.2, c.from.ensures, eq-eqb c.args.after.server was.number (grind arith))
           (changed_not rule c.args.from _ was.number (ticks_of was.clock) was.stood c.args.bucket c.args.after.place (vec_items was.held) s c.freed.new.self _ _ _
-          (omega (arith, was.held.ok.0)) (rw (sym c.from.ensures) c.index-mut.ensures.value) e
-          (freed_refused c.args.after.place c.args.place empty (holding s) (holding c.freed.new.self) _ e) c.make-room.ensures.same);
+          (omega (arith, was.held.ok.0)) (rw (sym c.from.ensures) c.index_mut.ensures.value) e
+          (freed_refused c.args.after.place c.args.place empty (holding s) (holding c.freed.new.self) _ e) c.make_room.ensures.same);
       sessions = refl;
     }
 
@@ -32,12 +32,12 @@ pub returns : goal.returns
 returns c =
     let was = c.args.self.now in
     let rule = freed c.args.after.place c.args.place (is_empty c.args.bucket c.args.after.place (sessions_of was)) in
-    let s = c.index-mut.result.now in
-    let e = c.in-ok-gone.ensures ∙ ap (λ q. freed c.args.after.place c.args.place q (holding s)) c.is-empty-empty.ensures in
+    let s = c.index_mut.result.now in
+    let e = c.in_ok-gone.ensures ∙ ap (λ q. freed c.args.after.place c.args.place q (holding s)) c.is_empty-empty.ensures in
     record {
       did = rw (eq-eqb c.args.after.server was.number (grind arith))
-          (changed_did rule c.args.from _ was.number (ticks_of was.clock) was.stood c.args.bucket c.args.after.place (vec_items was.held) s c.freed.new.self c.in-ok-gone.gone _ _ _
-          (omega (arith, was.held.ok.0)) (rw (sym c.from.ensures) c.index-mut.ensures.value) e
-          (rw (sym c.from.ensures) c.leave.ensures.kept) (put_more (sent_of c.args.out.now) (sent_of c.make-room.new.self) (sent_of c.put.new.self) (sent_of c.tell.new.out) _ _ c.make-room.ensures.same c.put.ensures.items c.tell.ensures.items));
+          (changed_did rule c.args.from _ was.number (ticks_of was.clock) was.stood c.args.bucket c.args.after.place (vec_items was.held) s c.freed.new.self c.in_ok-gone.gone _ _ _
+          (omega (arith, was.held.ok.0)) (rw (sym c.from.ensures) c.index_mut.ensures.value) e
+          (rw (sym c.from.ensures) c.leave.ensures.kept) (put_more (sent_of c.args.out.now) (sent_of c.make_room.new.self) (sent_of c.put.new.self) (sent_of c.tell.new.out) _ _ c.make_room.ensures.same c.put.ensures.items c.tell.ensures.items));
       sessions = c.leave.ensures.sessions;
     }

@@ -11,7 +11,7 @@ loop-server-init c = first_none c.args.number (vec_items c.new-held.result) c.ne
 pub loop-server-preserved : goal.loop-server-preserved
 loop-server-preserved c =
     first_more c.args.number c.loop-server.server-index c.args.assignment.now (vec_items c.loop-server.held) (vec_items c.push.new.self) c.first.result (omega arith)
-    c.in-ok-push.ensures.items c.first.ensures c.loop-server.invariant
+    c.in_ok-push.ensures.items c.first.ensures c.loop-server.invariant
 
 pub returns : goal.returns
 returns c = c.loop-server.invariant ∙ ap (first_holdings c.args.number) (take_all c.loop-server.server-index c.args.assignment.now (omega arith))

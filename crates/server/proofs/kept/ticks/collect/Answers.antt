@@ -13,13 +13,13 @@ loop-i-preserved c =
     let was = sent_of c.args.out.now in
     let out = sent_of c.loop-i.out in
     let out' = sent_of c.due.new.out in (
-      due_more c.args.ticks c.loop-i.i c.loop-i.i c.args.held.now c.index-held-i.result out out' _ (omega arith) c.index-held-i.is refl c.in-ok-due.ensures c.loop-i.invariant.0,
-      in_front was out out' _ c.in-ok-due.ensures c.loop-i.invariant.1,
+      due_more c.args.ticks c.loop-i.i c.loop-i.i c.args.held.now c.index-held-i.result out out' _ (omega arith) c.index-held-i.is refl c.in_ok-due.ensures c.loop-i.invariant.0,
+      in_front was out out' _ c.in_ok-due.ensures c.loop-i.invariant.1,
     )
 
 pub returns : goal.returns
 returns c =
     let out = sent_of c.loop-i.out in
     let none = due_all c.args.ticks c.loop-i.i c.args.held.now (omega arith) in
-    both_made c.make-room.result _ _ _ (c.make-room.ensures.same ∙ (sym (ap (λ x. out ++ x) none ∙ append-nil out) ∙ c.loop-i.invariant.0)) c.make-room.ensures.room
-    (ap (take (length (sent_of c.args.out.now))) c.make-room.ensures.same ∙ c.loop-i.invariant.1)
+    both_made c.make_room.result _ _ _ (c.make_room.ensures.same ∙ (sym (ap (λ x. out ++ x) none ∙ append-nil out) ∙ c.loop-i.invariant.0)) c.make_room.ensures.room
+    (ap (take (length (sent_of c.args.out.now))) c.make_room.ensures.same ∙ c.loop-i.invariant.1)

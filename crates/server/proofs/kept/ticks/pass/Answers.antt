@@ -8,8 +8,8 @@ use Rattle.server.proofs.kept.ticks.pass.Goals as goal
 
 pub loop-i-preserved : goal.loop-i-preserved
 loop-i-preserved c = (
-  pass_more c.args.ticks c.loop-i.i (vec_items c.loop-i.held) (vec_items c.args.held.now) c.index-mut.result.now c.passed.new.self
-      (omega (arith, c.args.held.now.ok.0)) (omega (arith, c.args.held.now.ok.0, c.loop-i.held.ok.0, c.loop-i.invariant.1)) c.index-mut.ensures.value c.passed.ensures c.loop-i.invariant.0,
+  pass_more c.args.ticks c.loop-i.i (vec_items c.loop-i.held) (vec_items c.args.held.now) c.index_mut.result.now c.passed.new.self
+      (omega (arith, c.args.held.now.ok.0)) (omega (arith, c.args.held.now.ok.0, c.loop-i.held.ok.0, c.loop-i.invariant.1)) c.index_mut.ensures.value c.passed.ensures c.loop-i.invariant.0,
   c.loop-i.invariant.1,
 )
 

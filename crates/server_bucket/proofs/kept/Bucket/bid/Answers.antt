@@ -11,7 +11,7 @@ returns-then-self-lt-MOST c =
     let l = length-take-le n fs (omega arith) in
     record {
       known = refl;
-      farewells = rw (c.rotate-right.ensures.after, turned c.args.farewell fs n (omega arith), take_all 15 (take n fs) (omega arith)) refl;
+      farewells = rw (c.rotate_right.ensures.after, turned c.args.farewell fs n (omega arith), take_all 15 (take n fs) (omega arith)) refl;
     }
 
 pub returns-else-self-lt-MOST : goal.returns-else-self-lt-MOST
@@ -21,5 +21,5 @@ returns-else-self-lt-MOST c =
     let e : n ≡ 15 + 1 = omega arith in
     record {
       known = refl;
-      farewells = rw (e, c.rotate-right.ensures.after, turned c.args.farewell fs 15 (omega arith), take-take 15 (15 + 1) fs (omega arith)) refl;
+      farewells = rw (e, c.rotate_right.ensures.after, turned c.args.farewell fs 15 (omega arith), take-take 15 (15 + 1) fs (omega arith)) refl;
     }

@@ -6,20 +6,20 @@ use Rattle.sessions.proofs.Stores.{long}
 use Rattle.sessions.proofs.Steps.{holds}
 use Rattle.sessions.proofs.store.Sessions.close_idle.Goals as goal
 
-pub returns-then-not-is-idle : goal.returns-then-not-is-idle
+pub returns-then-not-is_idle : goal.returns-then-not-is_idle
 unfolding entries_of
-returns-then-not-is-idle c = all_stay c.args.tick c.args.self.now (sym c.if-not-is-idle.ensures)
+returns-then-not-is_idle c = all_stay c.args.tick c.args.self.now (sym c.if-not-is_idle.ensures)
 
 pub refresh-self-requires : goal.refresh-self-requires
 refresh-self-requires c =
-    let s = c.close-all.new.self in
-    (s.groups, ap length c.as-slice.ensures.value ∙ (long s.slots s.filing.0).1, rw c.as-slice.ensures.value s.limits)
+    let s = c.close_all.new.self in
+    (s.groups, ap length c.as_slice.ensures.value ∙ (long s.slots s.filing.0).1, rw c.as_slice.ensures.value s.limits)
 
-pub invariant-of-self : goal.invariant-of-self
-invariant-of-self c =
-    idle_holds c.close-all.new.self c.refresh-self.result _ c.refresh-self.ensures.long
-    (rw c.as-slice.ensures.value at c.refresh-self.ensures.limits) c.refresh-self.ensures.least
+pub invariant_of-self : goal.invariant_of-self
+invariant_of-self c =
+    idle_holds c.close_all.new.self c.refresh-self.result _ c.refresh-self.ensures.long
+    (rw c.as_slice.ensures.value at c.refresh-self.ensures.limits) c.refresh-self.ensures.least
 
 pub returns : goal.returns
 unfolding entries_of
-returns c = stayed c.args.tick c.args.self.now (entries_of c.close-all.new.self) c.args.names.now c.requires c.close-all.ensures
+returns c = stayed c.args.tick c.args.self.now (entries_of c.close_all.new.self) c.args.names.now c.requires c.close_all.ensures

@@ -6,15 +6,15 @@ use Rattle.sessions.specs.Slots.{flat}
 use Rattle.sessions.specs.Model.{entries_of}
 use Rattle.sessions.proofs.Stores.{long, count_few, tally_at}
 use Rattle.sessions.proofs.store.Sessions.count_at.Goals as goal
-use Rattle.sessions.proofs.store.Sessions.count_at.Goals.{After-as-slice}
+use Rattle.sessions.proofs.store.Sessions.count_at.Goals.{After-as_slice}
 
 pub index-requires : goal.index-requires
 index-requires c = omega (arith, c.from.ensures, (long c.args.self.now.tallies c.args.self.now.lists).0)
 
 -- what the tallies of the bucket say of the place
-pub there : (c : goal.After-as-slice) → tallied_in c.args.place c.as-slice.result.now ≡ count_in c.args.bucket c.args.place (flat (map vec_items (vec_items c.args.self.now.slots)))
+pub there : (c : goal.After-as_slice) → tallied_in c.args.place c.as_slice.result.now ≡ count_in c.args.bucket c.args.place (flat (map vec_items (vec_items c.args.self.now.slots)))
 there c =
-    ap (tallied_in c.args.place) c.as-slice.ensures.value
+    ap (tallied_in c.args.place) c.as_slice.ensures.value
     ∙ tally_at c.args.self.now.tallies (map vec_items (vec_items c.args.self.now.slots)) c.args.bucket c.args.place c.index.result.now c.args.self.now.lists
     c.args.self.now.places (omega arith) (rw c.from.ensures at c.index.ensures)
 
@@ -24,4 +24,4 @@ count-requires c =
 
 pub returns : goal.returns
 unfolding entries_of
-returns c = c.count.ensures ∙ there (goal.at.returns c).After-as-slice
+returns c = c.count.ensures ∙ there (goal.at.returns c).After-as_slice

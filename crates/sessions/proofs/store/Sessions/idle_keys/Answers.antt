@@ -8,21 +8,21 @@ use Rattle.sessions.proofs.Idled.{none_idle}
 use Rattle.sessions.proofs.Stores.{long}
 use Rattle.sessions.proofs.store.Sessions.idle_keys.Goals as goal
 
-pub returns-then-not-is-idle : goal.returns-then-not-is-idle
-returns-then-not-is-idle c =
-    none_idle c.args.tick c.args.self.now (vec_items c.new-names.result) (sym c.if-not-is-idle.ensures) c.new-names.ensures.items
+pub returns-then-not-is_idle : goal.returns-then-not-is_idle
+returns-then-not-is_idle c =
+    none_idle c.args.tick c.args.self.now (vec_items c.new-names.result) (sym c.if-not-is_idle.ensures) c.new-names.ensures.items
 
-pub scan-groups-requires : goal.scan-groups-requires
-scan-groups-requires c =
+pub scan_groups-requires : goal.scan_groups-requires
+scan_groups-requires c =
     let s = c.args.self.now in (
-      ap length c.as-slice.ensures.value ∙ (long s.slots s.filing.0).1,
-      ap length c.as-slice-2.ensures.value ∙ s.groups,
-      bounded_moved (vec_items s.slots) c.as-slice.result.now (vec_items s.bounds) c.as-slice-2.result.now c.as-slice.ensures.value c.as-slice-2.ensures.value s.limits,
+      ap length c.as_slice.ensures.value ∙ (long s.slots s.filing.0).1,
+      ap length c.as_slice-2.ensures.value ∙ s.groups,
+      bounded_moved (vec_items s.slots) c.as_slice.result.now (vec_items s.bounds) c.as_slice-2.result.now c.as_slice.ensures.value c.as_slice-2.ensures.value s.limits,
     )
 
 pub returns : goal.returns
 unfolding entries_of
 returns c =
-    c.in-ok-scan-groups.ensures
-    ∙ (ap (λ ks. ks ++ idle_keys c.args.tick (flat (map vec_items c.as-slice.result.now))) c.new-names.ensures.items
-    ∙ ap (λ vs. idle_keys c.args.tick (flat (map vec_items vs))) c.as-slice.ensures.value)
+    c.in_ok-scan_groups.ensures
+    ∙ (ap (λ ks. ks ++ idle_keys c.args.tick (flat (map vec_items c.as_slice.result.now))) c.new-names.ensures.items
+    ∙ ap (λ vs. idle_keys c.args.tick (flat (map vec_items vs))) c.as_slice.ensures.value)

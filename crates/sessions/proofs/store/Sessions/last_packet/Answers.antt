@@ -12,5 +12,5 @@ index-requires c = omega (arith, c.slot.ensures, slot_below c.args.key.now, (lon
 pub returns : goal.returns
 unfolding entries_of
 returns c =
-    c.find.ensures ∙ (ap (seen_in c.args.key.now) c.as-slice.ensures.value
+    c.find.ensures ∙ (ap (seen_in c.args.key.now) c.as_slice.ensures.value
     ∙ seen_at c.args.self.now.slots c.args.key.now c.slot.result c.index.result.now c.args.self.now.filing c.slot.ensures c.index.ensures)

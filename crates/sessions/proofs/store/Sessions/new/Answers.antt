@@ -5,18 +5,18 @@ use Rattle.sessions.specs.Model.{entries_of}
 use Rattle.sessions.proofs.Stores.{new_holds, empty_flat, empty_more}
 use Rattle.sessions.proofs.store.Sessions.new.Goals as goal
 
-pub invariant-of-result : goal.invariant-of-result
-invariant-of-result c =
+pub invariant_of-result : goal.invariant_of-result
+invariant_of-result c =
     let i = c.loop-i.invariant in
     let a = length-map (vec_items c.loop-i.slots) vec_items in
     let b = length-map (vec_items c.loop-i.tallies) vec_items in
-    new_holds (map vec_items (vec_items c.loop-i.slots)) (map vec_items (vec_items c.loop-i.tallies)) (vec_items c.in-ok-bounds.bounds) (omega (arith, i.0, c.loop-i.slots.ok.0)) (omega (arith, i.1, c.loop-i.tallies.ok.0)) c.in-ok-bounds.ensures i.2 i.3
+    new_holds (map vec_items (vec_items c.loop-i.slots)) (map vec_items (vec_items c.loop-i.tallies)) (vec_items c.in_ok-bounds.bounds) (omega (arith, i.0, c.loop-i.slots.ok.0)) (omega (arith, i.1, c.loop-i.tallies.ok.0)) c.in_ok-bounds.ensures i.2 i.3
 
 pub loop-i-preserved : goal.loop-i-preserved
 loop-i-preserved c =
     let i = c.loop-i.invariant in
-    let e = c.in-ok-push.ensures in
-    let f = c.in-ok-push-2.ensures in (
+    let e = c.in_ok-push.ensures in
+    let f = c.in_ok-push-2.ensures in (
       omega (arith, i.0, e.len),
       omega (arith, i.1, f.len),
       empty_more (vec_items c.loop-i.slots) (vec_items c.push.new.self) c.new.result e.items c.new.ensures.items i.2,

@@ -5,7 +5,7 @@ use Rattle.sessions.proofs.store.Sessions.new.Given as goal
 
 abbrev pub invariant-loop-i : goal.invariant-loop-i
 invariant-loop-i l =
-    (vec_len l.slots ≡ l.-i)
-    × (vec_len l.tallies ≡ l.-i)
+    (vec_len l.slots ≡ l._i)
+    × (vec_len l.tallies ≡ l._i)
     × Empty (map vec_items (vec_items l.slots))
     × Empty (map vec_items (vec_items l.tallies))

@@ -9,7 +9,7 @@ use Rattle.sessions.proofs.store.bounds.least.Goals as goal
 pub loop-slot-preserved : goal.loop-slot-preserved
 loop-slot-preserved c =
     let rest = flat (map vec_items (drop (c.loop-slot.slot-index + 1) c.args.slots.now)) in
-    ap (λ o. least_of o rest) (c.least-of-least.ensures ∙ ap (least_of c.loop-slot.least) c.as-slice.ensures.value)
+    ap (λ o. least_of o rest) (c.least_of-least.ensures ∙ ap (least_of c.loop-slot.least) c.as_slice.ensures.value)
     ∙ (least_slot c.loop-slot.least c.args.slots.now c.loop-slot.slot-index c.slot-item.result (omega arith) c.slot-item.is ∙ c.loop-slot.invariant)
 
 pub returns : goal.returns

@@ -11,7 +11,7 @@ loop-slot-preserved c =
     let t = c.args.tick in
     let vs = c.args.slots.now in
     let rest = flat (map vec_items (drop (c.loop-slot.slot-index + 1) c.args.slots.now)) in
-    let r = rw c.as-slice.ensures.value at c.in-ok-scan-slot.ensures in
+    let r = rw c.as_slice.ensures.value at c.in_ok-scan_slot.ensures in
     ap (λ o. o ++ idle_keys t rest) r ∙ (names_slot t (vec_items c.loop-slot.names) vs c.loop-slot.slot-index c.slot-item.result (omega arith) c.slot-item.is ∙ c.loop-slot.invariant)
 
 pub returns : goal.returns

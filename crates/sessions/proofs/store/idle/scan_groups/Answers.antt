@@ -5,20 +5,20 @@ use Rattle.sessions.specs.Entries.{idle_keys}
 use Rattle.sessions.specs.Slots.{flat}
 use Rattle.sessions.proofs.Groups.{group_of, group_yes, group_no}
 use Rattle.sessions.proofs.store.idle.scan_groups.Goals as goal
-use Rattle.sessions.proofs.store.idle.scan_groups.Goals.{then-is-idle+in-ok-scan, else-is-idle}
+use Rattle.sessions.proofs.store.idle.scan_groups.Goals.{then-is_idle+in_ok-scan, else-is_idle}
 
 pub loop-group-preserved : goal.loop-group-preserved
 loop-group-preserved c =
     let t = c.args.tick in
     let vs = c.args.slots.now in
     let g = c.loop-group.group in
-    elim c.if-is-idle.branch [
-      | then-is-idle+in-ok-scan w ↦
+    elim c.if-is_idle.branch [
+      | then-is_idle+in_ok-scan w ↦
           let n : c.loop-group.group * 16 + 16 - c.loop-group.group * 16 ≡ 16 = omega arith in
-          group_yes t (vec_items c.loop-group.names) (vec_items c.if-is-idle.names) vs g (ap vec_items w.names-is ∙ (rw n at w.in-ok-scan.ensures)) ∙ c.loop-group.invariant
-      | else-is-idle w ↦
-          let e = group_no t vs c.args.bounds.now g c.requires.2 (sym w.if-is-idle.ensures) in
-          group_yes t (vec_items c.loop-group.names) (vec_items c.if-is-idle.names) vs g
+          group_yes t (vec_items c.loop-group.names) (vec_items c.if-is_idle.names) vs g (ap vec_items w.names-is ∙ (rw n at w.in_ok-scan.ensures)) ∙ c.loop-group.invariant
+      | else-is_idle w ↦
+          let e = group_no t vs c.args.bounds.now g c.requires.2 (sym w.if-is_idle.ensures) in
+          group_yes t (vec_items c.loop-group.names) (vec_items c.if-is_idle.names) vs g
           (ap vec_items w.names-is ∙ (sym (append-nil (vec_items c.loop-group.names)) ∙ ap (λ ks. vec_items c.loop-group.names ++ ks) (sym e))) ∙ c.loop-group.invariant
     ]
 

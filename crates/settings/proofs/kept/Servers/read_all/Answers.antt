@@ -11,7 +11,7 @@ returns-in-Err c =
 
 pub loop-byte-preserved : goal.loop-byte-preserved
 loop-byte-preserved c =
-    sym (byte_turn (listing c.loop-byte.servers) (listing c.next.new.self) c.args.list.now c.loop-byte.byte-index c.in-default.field-0 (omega arith) c.in-default.ensures)
+    sym (byte_turn (listing c.loop-byte.servers) (listing c.next.new.self) c.args.list.now c.loop-byte.byte-index c.in_default.field-0 (omega arith) c.in_default.ensures)
     ∙ c.loop-byte.invariant
 
 pub returns-in-Ok : goal.returns-in-Ok

@@ -11,16 +11,16 @@ loop-session-preserved c =
     rw add-one
     (elim c.if-session-server.branch [
       | then-session-server w ↦
-          let k = counted c.args.server c.as-slice-session-items.result.now (opened c.args.self.now) c.loop-session.session-index _ c.loop-session-test.true c.as-slice-session-items.ensures.value w.if-session-server.true in
+          let k = counted c.args.server c.as_slice-session-items.result.now (opened c.args.self.now) c.loop-session.session-index _ c.loop-session-test.true c.as_slice-session-items.ensures.value w.if-session-server.true in
           (omega (arith, w.count-is, c.loop-session.invariant.0), omega (arith, w.count-is, k, c.loop-session.invariant.1))
       | else-session-server w ↦
-          let k = not_counted c.args.server c.as-slice-session-items.result.now (opened c.args.self.now) c.loop-session.session-index _ c.loop-session-test.true c.as-slice-session-items.ensures.value w.if-session-server.false in
+          let k = not_counted c.args.server c.as_slice-session-items.result.now (opened c.args.self.now) c.loop-session.session-index _ c.loop-session-test.true c.as_slice-session-items.ensures.value w.if-session-server.false in
           (omega (arith, w.count-is, c.loop-session.invariant.0), omega (arith, w.count-is, k, c.loop-session.invariant.1))
     ])
 
 pub returns : goal.returns
 returns c =
-    let e = c.as-slice-session-items.ensures.len in
+    let e = c.as_slice-session-items.ensures.len in
     let n = c.args.self.now.«open».ok.0 in
     let k = at_drop_all (count_at c.args.server) (opened c.args.self.now) c.loop-session.session-index (omega arith) in
     omega (arith, k, c.loop-session.invariant.1)

@@ -5,18 +5,18 @@ use Rattle.stage.proofs.Passed.{here, past, ended}
 use Rattle.stage.specs.Opened.{opened, first_idle}
 use Rattle.stage.proofs.session.Sessions.first_idle.Goals as goal
 
-pub returns-then-is-idle : goal.returns-then-is-idle
-returns-then-is-idle c =
-    here (first_idle c.args.tick) c.as-slice-session-items.result.now (opened c.args.self.now) c.loop-session.session-index _ _ c.loop-session-test.true
-    c.as-slice-session-items.ensures.value (λ r. idle_yes c.args.tick _ r (sym c.is-idle.ensures ∙ c.if-is-idle.true)) c.loop-session.invariant
+pub returns-then-is_idle : goal.returns-then-is_idle
+returns-then-is_idle c =
+    here (first_idle c.args.tick) c.as_slice-session-items.result.now (opened c.args.self.now) c.loop-session.session-index _ _ c.loop-session-test.true
+    c.as_slice-session-items.ensures.value (λ r. idle_yes c.args.tick _ r (sym c.is_idle.ensures ∙ c.if-is_idle.true)) c.loop-session.invariant
 
 pub loop-session-preserved : goal.loop-session-preserved
 loop-session-preserved c =
     rw add-one
-    (past (first_idle c.args.tick) c.as-slice-session-items.result.now (opened c.args.self.now) c.loop-session.session-index _ c.loop-session-test.true
-    c.as-slice-session-items.ensures.value (λ r. idle_no c.args.tick _ r (sym c.is-idle.ensures ∙ c.if-is-idle.false)) c.loop-session.invariant)
+    (past (first_idle c.args.tick) c.as_slice-session-items.result.now (opened c.args.self.now) c.loop-session.session-index _ c.loop-session-test.true
+    c.as_slice-session-items.ensures.value (λ r. idle_no c.args.tick _ r (sym c.is_idle.ensures ∙ c.if-is_idle.false)) c.loop-session.invariant)
 
 pub returns : goal.returns
 returns c =
-    ended (first_idle c.args.tick) c.as-slice-session-items.result.now (opened c.args.self.now) c.loop-session.session-index c.loop-session-test.false
-    c.as-slice-session-items.ensures.value c.loop-session.invariant
+    ended (first_idle c.args.tick) c.as_slice-session-items.result.now (opened c.args.self.now) c.loop-session.session-index c.loop-session-test.false
+    c.as_slice-session-items.ensures.value c.loop-session.invariant
