@@ -9,7 +9,9 @@ pub invariant_of-result : goal.invariant_of-result
 invariant_of-result c =
     let r = c.in_ok-roster.ensures in
     let v = c.in_ok-charges.charges in
-    let e = ap length c.in_ok-charges.ensures in (
-      omega (arith, v.ok.0, e, length-map (vec_items v) charge, length-map c.assignment.result.now charge_first, ap length c.assignment.ensures, r.3.0, c.count.ensures),
-      (c.in_ok-resize.ensures.len, ((omega (arith, r.3.0, c.count.ensures), r.3.1), tt)),
-    )
+    let e = ap length c.in_ok-charges.ensures in
+    record {
+      one_each = omega (arith, v.ok.0, e, length-map (vec_items v) charge, length-map c.assignment.result.now charge_first, ap length c.assignment.ensures, r.numbered.0, c.count.ensures);
+      each_server = c.in_ok-resize.ensures.len;
+      numbered = (omega (arith, r.numbered.0, c.count.ensures), r.numbered.1);
+    }

@@ -33,8 +33,8 @@ returns-in-Forgotten c =
     let was = c.args.self.now in
     let here = within_buckets (vec_items was.held) c.bucket_in.result (omega (arith, was.held.ok.0)) in
     record {
-      did = told_as c.args.from c.args.control _ (keeping was) _ _ _ _ _ c.in-Forgotten.is (rw (sym c.bucket_in.ensures) here) c.forgotten_told.ensures.did;
-      sessions = c.forgotten_told.ensures.sessions;
+      did = told_as c.args.from c.args.control _ (keeping was) _ _ _ _ _ c.in-Forgotten.is (rw (sym c.bucket_in.ensures) here) c.told_forgotten.ensures.did;
+      sessions = c.told_forgotten.ensures.sessions;
     }
 
 pub returns-in-Door : goal.returns-in-Door

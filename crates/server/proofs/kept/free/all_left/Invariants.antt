@@ -5,4 +5,4 @@ use Rattle.server.specs.Rules.{all_left}
 use Rattle.server.proofs.kept.free.all_left.Given as goal
 
 abbrev pub invariant-loop-bucket : goal.invariant-loop-bucket
-invariant-loop-bucket l = all_left (map holding (drop l.bucket_index l.held)) ≡ all_left (map holding l.held)
+invariant-loop-bucket l = all_left (map holding (drop l.bucket-index l.held)) ≡ all_left (map holding l.held)
