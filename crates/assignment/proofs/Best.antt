@@ -1,17 +1,17 @@
 -- The assignment of the rule is even, and no other even one changes fewer buckets. Assumes nothing.
-use Rattle.std.proofs.Common.{◌≡◌, ℕ, zero, suc, ◌+◌, ◌-◌, ◌*◌, ◌/◌, ◌%◌, ◌<◌, ◌≤◌, min, Bool, true, false, cond, ◌&&◌, eqb, ltb, leb, ◌⊎◌, List, [], ◌∷◌, map, length, get_or, sym, refl, ap, ◌∙◌, subst, inl, inr, mul-one, mul-add, arith}
+use Rattle.std.proofs.Common.{◌≡◌, ℕ, zero, suc, ◌+◌, ◌-◌, ◌/◌, ◌%◌, ◌<◌, ◌≤◌, min, Bool, true, false, ◌&&◌, eqb, ltb, leb, ◌⊎◌, List, [], ◌∷◌, map, length, get_or, refl, ◌∙◌, subst, inl, inr, mul-one, mul-add, arith}
 use native.Mathlib.Nat.{div-add-mod}
 use Rattle.std.proofs.lemmas.Nat.{mod_below}
 use Rattle.std.proofs.ByRecursion.{All-get_or}
 use Rattle.std.proofs.lemmas.List.{get_or-map, get_or_past, length-map}
-use Rattle.std.proofs.lemmas.Bool.{lt-ltb, le-ltb, ltb-true, ltb-false, ne_eqb, eq-eqb, cases_eq, cases_lt, cases_Bool, and_parts, and_cases, leb-true, leb-false, both_ways}
+use Rattle.std.proofs.lemmas.Bool.{lt-ltb, ltb-true, ne_eqb, eq-eqb, cases_eq, cases_lt, cases_Bool, and_parts, and_cases, leb-true, leb-false, both_ways}
 use Rattle.std.specs.List.{AllByRecursion as All}
 use Rattle.assignment.specs.Even.{count, place, Listed, Even, moved, Fewest}
-use Rattle.assignment.specs.Rule.{rises, sum_over, ahead, rank, quota_of, kept, kept_quota, shared_by, rebalanced}
+use Rattle.assignment.specs.Rule.{rises, sum_over, rank, quota_of, kept, kept_quota, shared_by, rebalanced}
 use Rattle.assignment.specs.Laws.{LeastMoves, AnyQuotas}
 use Rattle.assignment.proofs.Servers.{one, one_le, place_at, has_place}
 use Rattle.assignment.proofs.Sums.{sum_eq, sum_le, sum_lt, sum_add, sum_const, sum_once, ahead_more, rank_strict, ranks}
-use Rattle.assignment.proofs.Changes.{total, total_map, sum_places, Fit, keep_count, keep_most, keep_total, kept_length, left_length, kept_served, deal_count, deal_served, moved_dealt}
+use Rattle.assignment.proofs.Changes.{total, total_map, sum_places, Fit, keep_count, keep_most, keep_total, left_length, kept_served, deal_count, deal_served, moved_dealt}
 
 -- QUOTAS: as many as there are buckets, and each one part or one more
 pub quota_sum : (c : ℕ → ℕ) (ss : List ℕ) (n : ℕ) → rises ss ≡ true → 0 < length ss → sum_over (quota_of c ss n) ss ≡ n

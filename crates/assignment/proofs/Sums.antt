@@ -1,10 +1,10 @@
 -- Sums over the servers, and how many servers are ahead of another. Assumes nothing.
-use Rattle.std.proofs.Common.{◌≡◌, ℕ, zero, suc, ◌+◌, ◌-◌, ◌*◌, ◌<◌, ◌≤◌, min, Bool, true, false, cond, ◌&&◌, ◌||◌, eqb, ltb, leb, ◌⊎◌, List, [], ◌∷◌, map, length, get_or, sym, refl, ap, ◌∙◌, subst, inl, inr, mul_comm, add-mul, one-mul, arith}
+use Rattle.std.proofs.Common.{◌≡◌, ℕ, zero, suc, ◌+◌, ◌-◌, ◌*◌, ◌<◌, ◌≤◌, min, true, false, eqb, ltb, leb, List, [], ◌∷◌, map, length, get_or, refl, ap, ◌∙◌, inl, inr, add-mul, one-mul, arith}
 use Rattle.std.proofs.lemmas.Bool.{and_parts, cases_lt, cases_Bool, cases_eq, lt-ltb, le-ltb, ne_eqb, eq-eqb}
 use Rattle.std.proofs.lemmas.Bool.Decides.{nat_tests}
 use Rattle.assignment.specs.Even.{place, Listed}
 use Rattle.assignment.specs.Rule.{rises_from, sum_over, ahead, rank, quota_of}
-use Rattle.assignment.proofs.Servers.{one, one_le, rise_above, sum_le_length}
+use Rattle.assignment.proofs.Servers.{one, rise_above, sum_le_length}
 
 pub sum_eq : (f g : ℕ → ℕ) (ss : List ℕ) → ((i : ℕ) → i < length ss → f (get_or ss i 0) ≡ g (get_or ss i 0)) → sum_over f ss ≡ sum_over g ss
 sum_eq f g [] e = refl

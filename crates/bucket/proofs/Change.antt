@@ -1,5 +1,5 @@
 -- A step that changes one place, the sessions of one place, or what the controller keeps, keeps the invariant, if what it does is allowed; so does one that sends a message of which the invariant's part holds. Assumes nothing.
-use Rattle.std.proofs.Common.{◌≡◌, ℕ, ◌<◌, ◌≤◌, T, ◌⊎◌, List, ◌∷◌, Ok as Done, Err, Result, sym, refl, subst, inl, inr, arith}
+use Rattle.std.proofs.Common.{◌≡◌, ℕ, ◌<◌, ◌≤◌, T, ◌⊎◌, ◌∷◌, Ok as Done, Err, Result, sym, refl, subst, inl, inr, arith}
 use mathlib.Core.List.Memᴰ
 use Rattle.fault.specs.declared.Fault.{Fault}
 use Rattle.flow.specs.declared.key.FlowKey.{FlowKey}
@@ -8,8 +8,8 @@ use Rattle.chain.specs.declared.place.Standing.{Standing}
 use Rattle.chain.specs.Controllers.{Control, newest_of}
 use Rattle.bucket.specs.Sessions.{is_in, count, without, put, bump}
 use Rattle.bucket.specs.Model.{Message, State, newest, IsOpen, sends, puts, holds, controls, counts, learns}
-use Rattle.bucket.proofs.Lists.{put_all, put_here, put_cases, in_cons, in_here, in_there, in_without, in_still, count_without, count_cons, bump_up, bump_here}
-use Rattle.bucket.proofs.Invariant.{View, view, Born, IsStanding, AfterIs, ForgottenTo, Held, Known, Shape, Ok, Waits, Names, Pointed, Inv}
+use Rattle.bucket.proofs.Lists.{put_all, put_here, put_cases, in_cons, in_there, in_without, in_still, count_without, count_cons, bump_up, bump_here}
+use Rattle.bucket.proofs.Invariant.{view, Born, IsStanding, AfterIs, ForgottenTo, Known, Shape, Ok, Waits, Names, Pointed, Inv}
 use Rattle.bucket.proofs.Stable.{Grows, grows_not, known_stays, ok_stays, shape_stays}
 
 -- the invariant of a state after a step, and that the step let the view grow

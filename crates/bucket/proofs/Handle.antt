@@ -1,6 +1,5 @@
 -- What a place does with a packet is right, by cases; and each forwarding takes one of the deliveries that are left. Assumes nothing.
-use Rattle.std.proofs.Common.{◌≡◌, ℕ, ◌+◌, ◌-◌, ◌*◌, ◌<◌, ◌≤◌, Bool, true, false, cond, T, eqb, ltb, ◌⊎◌, Some, None, Option, sym, refl, ap, subst, inl, inr, arith}
-use Rattle.fault.specs.declared.Refusal.{Refusal}
+use Rattle.std.proofs.Common.{◌≡◌, ℕ, ◌+◌, ◌-◌, ◌*◌, ◌<◌, ◌≤◌, Bool, true, false, cond, T, eqb, ltb, Some, None, Option, sym, refl, subst, inl, inr, arith}
 use Rattle.flow.specs.declared.key.FlowKey.{FlowKey}
 use Rattle.chain.specs.declared.way.Link.{Link}
 use Rattle.chain.specs.declared.way.Way.{Way}
@@ -14,7 +13,7 @@ use Rattle.chain.specs.declared.place.Outcome.TheVariants.{Delivered, Opened, Fo
 use Rattle.chain.specs.Places.{ask_below, nobody_has, seek, leaves, strays, handle_at, stands_with}
 use Rattle.bucket.specs.Sessions.{is_in}
 use Rattle.bucket.specs.Model.{Was, NotOpen, OpenAt, Traced, onto}
-use Rattle.bucket.proofs.Invariant.{View, Born, IsStanding, Held, Known, Before, After, Next, NoneBelow, Shape, Asks, Owed, Fine}
+use Rattle.bucket.proofs.Invariant.{View, Born, IsStanding, Held, Known, Before, After, Next, NoneBelow, Shape, Owed, Fine}
 
 -- a count of the places up to each number: one more at least at every place that was made
 pub record Ranks (v : View) (rank : ℕ → ℕ) : Type 0 where

@@ -1,7 +1,6 @@
 -- Laws of the lists of open sessions, and of a map changed at one number. Assumes nothing.
-use Rattle.std.proofs.Common.{◌≡◌, ℕ, suc, ◌<◌, ◌≤◌, Bool, true, false, cond, T, ◌⊎◌, List, [], ◌∷◌, sym, refl, subst, inl, inr, arith}
+use Rattle.std.proofs.Common.{◌≡◌, ℕ, ◌<◌, ◌≤◌, T, ◌⊎◌, List, [], ◌∷◌, refl, inl, arith}
 use Rattle.flow.specs.declared.key.FlowKey.{FlowKey}
-use Rattle.flow.specs.Key.{same_flow}
 use Rattle.flow.proofs.Same.{same_refl, same_eq}
 use Rattle.bucket.specs.Sessions.{is_in, count, without, is_empty, put, bump}
 

@@ -1,9 +1,7 @@
 -- The promises of one bucket, from the invariant. Assumes nothing.
-use Rattle.std.proofs.Common.{◌≡◌, ℕ, suc, ◌*◌, ◌<◌, ◌≤◌, Bool, T, ◌⊎◌, [], ◌∷◌, Some, None, sym, refl, ap, subst, inl, inr, arith}
+use Rattle.std.proofs.Common.{◌≡◌, ℕ, ◌<◌, ◌≤◌, T, ◌⊎◌, ◌∷◌, Some, None, sym, refl, ap, subst, inl, inr, arith}
 use mathlib.Core.List.Memᴰ
 use mathlib.Core.List.{Memᴰ}
-use Rattle.fault.specs.declared.Refusal.{Refusal}
-use Rattle.flow.specs.declared.key.FlowKey.{FlowKey}
 use Rattle.chain.specs.declared.way.Link.{Link}
 use Rattle.chain.specs.declared.way.Way.{Way}
 use Rattle.chain.specs.declared.place.Standing.{Standing}
@@ -11,14 +9,14 @@ use Rattle.chain.specs.declared.place.Standing.TheVariants.{Never, Stands, Forgo
 use Rattle.chain.specs.declared.place.Outcome.{Outcome}
 use Rattle.chain.specs.declared.place.Outcome.TheVariants.{Delivered, Opened, Forwarded, Refused, Dropped}
 use Rattle.chain.specs.Places as place
-use Rattle.bucket.specs.Sessions.{is_in, put}
-use Rattle.bucket.specs.Model.{Was, NotOpen, OpenAt, Traced, Carry, State, start, IsOpen, holds, Event, Quiet, Handled, outcome, onto, done, Step, ignores, begins, stands, introduces, follows, confirms, announces, hints, hears, comes, arrives, closes, forgets, frees, shortens, Reach, begin, more}
+use Rattle.bucket.specs.Sessions.{is_in}
+use Rattle.bucket.specs.Model.{Was, OpenAt, Traced, Carry, State, start, IsOpen, Event, Quiet, Handled, outcome, onto, done, Step, ignores, begins, stands, introduces, follows, confirms, announces, hints, hears, comes, arrives, closes, forgets, frees, shortens, Reach, begin, more}
 use Rattle.bucket.specs.Promise.{made, PointsTo, IsLast, Newest, Journey, last, next, meanwhile, Main}
 use Rattle.bucket.proofs.Lists.{put_all, put_here, put_cases, in_none, in_here, count_empty}
-use Rattle.bucket.proofs.Invariant.{View, view, Born, IsStanding, AfterIs, Held, Shape, Owed, Fine, Pointed, Inv}
+use Rattle.bucket.proofs.Invariant.{view, Born, IsStanding, AfterIs, Shape, Owed, Fine, Inv}
 use Rattle.bucket.proofs.Handle.{Ranks, left, left_some, left_most, Spent, Right, handle_right}
 use Rattle.bucket.proofs.Ranks.{made_ranks, ranks_stay}
-use Rattle.bucket.proofs.Stable.{Grows, grows_not}
+use Rattle.bucket.proofs.Stable.{Grows}
 use Rattle.bucket.proofs.Change.{sends_inv}
 use Rattle.bucket.proofs.Steps.{right, after_next, top_stands, step_inv, step_sent}
 

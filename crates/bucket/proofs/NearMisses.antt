@@ -1,5 +1,5 @@
 -- Each near miss breaks a promise: the run that breaks it, step by step; that each step is one is computed. Assumes nothing.
-use Rattle.std.proofs.Common.{◌≡◌, true, false, Some, refl, arith}
+use Rattle.std.proofs.Common.{true, false, Some, refl, arith}
 use mathlib.Core.List.Memᴰ
 use Rattle.fault.specs.declared.Refusal.TheVariants.{Nobody}
 use Rattle.flow.specs.Key.{same_flow}

@@ -1,5 +1,5 @@
 -- Tools for runs that compute: one session, servers by number, a state with how it was reached. Assumes nothing.
-use Rattle.std.proofs.Common.{◌≡◌, ℕ, Bool, true, false, List, ◌∷◌, refl, arith}
+use Rattle.std.proofs.Common.{◌≡◌, ℕ, Bool, true, List, ◌∷◌, refl, arith}
 use mathlib.Core.List.{Memᴰ}
 use Rattle.flow.specs.declared.key.FlowKey.{FlowKey}
 use Rattle.flow.specs.declared.key.Protocol.TheVariants.{Tcp}

@@ -9,7 +9,7 @@ use Rattle.chain.specs.declared.place.Standing.TheVariants.{Never, Stands, Forgo
 use Rattle.chain.specs.declared.handover.Handover.{Handover}
 use Rattle.chain.specs.declared.handover.Handover.TheVariants.{Idle, AwaitStood, AwaitTold}
 use Rattle.bucket.specs.Model.{Was, NotOpen, OpenAt, Traced, Message, Carry, ToStand, Stood, BehindYou, Told, ToBalancer, Gone}
-use Rattle.bucket.proofs.Invariant.{View, Born, IsStanding, AfterIs, ForgottenTo, Held, Known, NoneIn, NoneBelow, Before, Next, After, Shape, Asks, Owed, Fine, StandOk, BehindOk, Ok, Waits}
+use Rattle.bucket.proofs.Invariant.{View, Born, IsStanding, AfterIs, ForgottenTo, Held, Known, Before, Next, After, Shape, Asks, Owed, Fine, StandOk, BehindOk, Ok, Waits}
 
 pub record Grows (v w : View) : Type 0 where
   pub host : (p : ℕ) → v.host p ≡ w.host p

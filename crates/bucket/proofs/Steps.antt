@@ -1,14 +1,13 @@
 -- Every step keeps the invariant. Assumes nothing.
-use Rattle.std.proofs.Common.{◌≡◌, ℕ, ◌<◌, ◌≤◌, Bool, true, false, cond, ◌&&◌, T, eqb, ltb, ◌⊎◌, List, [], ◌∷◌, Some, None, Ok as Done, Err, Option, Result, sym, refl, ap, subst, inl, inr, arith}
+use Rattle.std.proofs.Common.{◌≡◌, ℕ, ◌<◌, ◌≤◌, Bool, true, false, cond, ◌&&◌, T, eqb, ltb, List, [], ◌∷◌, Some, None, Ok as Done, Err, Option, Result, sym, refl, ap, subst, inl, inr, arith}
 use mathlib.Core.Path.{fun_ext}
 use mathlib.Core.List.{Memᴰ}
 use Rattle.std.proofs.lemmas.Bool.{cases_lt}
 use Rattle.fault.specs.declared.Fault.{Fault}
-use Rattle.fault.specs.declared.Fault.TheVariants.{UnknownPlace, Contradiction}
+use Rattle.fault.specs.declared.Fault.TheVariants.{Contradiction}
 use Rattle.flow.specs.declared.key.FlowKey.{FlowKey}
 use Rattle.chain.specs.declared.way.Link.{Link}
-use Rattle.chain.specs.declared.way.Way.{Way}
-use Rattle.chain.specs.declared.way.Way.TheVariants.{Up, Down, Asked}
+use Rattle.chain.specs.declared.way.Way.TheVariants.{Up}
 use Rattle.chain.specs.declared.place.Standing.{Standing}
 use Rattle.chain.specs.declared.place.Standing.TheVariants.{Never, Stands, Forgotten}
 use Rattle.chain.specs.declared.place.Place.{Place}
@@ -18,15 +17,15 @@ use Rattle.chain.specs.declared.handover.Handover.{Handover}
 use Rattle.chain.specs.declared.handover.Handover.TheVariants.{Idle, AwaitStood, AwaitTold}
 use Rattle.chain.specs.Ways.{same_link, heard_link}
 use Rattle.chain.specs.Places as place
-use Rattle.chain.specs.Controllers.{Control, newest_of, began, above, stood_in, told_in, hears_stood, hears_told, hears_forgotten}
-use Rattle.bucket.specs.Sessions.{is_in, is_empty, put}
+use Rattle.chain.specs.Controllers.{Control, newest_of, began, above, stood_in, told_in, hears_stood, hears_forgotten}
+use Rattle.bucket.specs.Sessions.{is_empty, put}
 use Rattle.bucket.specs.Promise.{made}
 use Rattle.bucket.specs.Model.{Was, NotOpen, OpenAt, Traced, Message, Carry, ToStand, Stood, BehindYou, Told, ToBalancer, Gone, State, newest, IsOpen, link_to, place_at, sends, puts, controls, learns, answers, becomes, introduced, tells_of_it, retires, onto, done, Event, outcome, Step, ignores, begins, stands, introduces, follows, confirms, announces, hints, hears, comes, arrives, closes, forgets, frees, shortens}
 use Rattle.bucket.proofs.Lists.{put_all, put_here, put_cases, in_empty}
-use Rattle.bucket.proofs.Invariant.{View, view, Born, IsStanding, AfterIs, ForgottenTo, Held, Known, NoneIn, Next, Shape, Owed, Fine, StandOk, BehindOk, Ok, Waits, Names, Inv}
-use Rattle.bucket.proofs.Handle.{Right, handle_right, known_right}
+use Rattle.bucket.proofs.Invariant.{View, view, Born, IsStanding, AfterIs, ForgottenTo, Known, Next, Shape, Owed, StandOk, BehindOk, Ok, Waits, Names, Inv}
+use Rattle.bucket.proofs.Handle.{Right, handle_right}
 use Rattle.bucket.proofs.Ranks.{made_ranks}
-use Rattle.bucket.proofs.Stable.{Grows, grows_not, known_stays, ok_stays, before_stays, next_stays, after_stays, waits_stay}
+use Rattle.bucket.proofs.Stable.{Grows, grows_not, known_stays, before_stays, next_stays, after_stays, waits_stay}
 use Rattle.bucket.proofs.Change.{AfterStep, sends_inv, Turn, puts_inv, Learnt, learns_inv, opened_inv, closed_inv, controls_inv}
 
 -- a test inside what is shown

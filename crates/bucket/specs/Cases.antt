@@ -1,11 +1,10 @@
 -- The worked cases: a packet's way from place to place, by the rules of a place alone. Assumes nothing.
-use Rattle.std.specs.Prelude.{◌≡◌, ℕ, Bool, true, false, cond, List, [], ◌∷◌, Some, None, Ok, Err, Option, Result}
+use Rattle.std.specs.Prelude.{◌≡◌, Bool, true, false, cond, List, [], ◌∷◌, Some, None, Ok, Err, Option, Result}
 use Rattle.fault.specs.declared.Fault.{Fault}
 use Rattle.fault.specs.declared.Refusal.TheVariants.{Nobody}
 use Rattle.flow.specs.declared.key.FlowKey.{FlowKey}
 use Rattle.flow.specs.declared.key.Protocol.TheVariants.{Tcp}
 use Rattle.chain.specs.declared.way.Link.{Link}
-use Rattle.chain.specs.declared.way.Way.{Way}
 use Rattle.chain.specs.declared.way.Way.TheVariants.{Up, Down, Asked}
 use Rattle.chain.specs.declared.way.Packet.{Packet}
 use Rattle.chain.specs.declared.place.Standing.TheVariants.{Never}

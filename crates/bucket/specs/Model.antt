@@ -4,10 +4,9 @@
 -- that is loss, delay, reordering and repetition at once, and a message that is said again adds nothing.
 -- `host p` is the server that stands in place p, if ever one does: any function, chosen before the run, so that every choice of servers is covered.
 -- What a place does with a packet is a parameter, `rule`, so that other rules can be shown to fail; the promises are for `handle`, which the code's contract cites. Assumes nothing.
-use Rattle.std.specs.Prelude.{◌≡◌, ℕ, ◌<◌, Bool, true, false, cond, T, List, [], ◌∷◌, Some, None, Ok, Err, Option, Result, ◌==◌}
+use Rattle.std.specs.Prelude.{◌≡◌, ℕ, ◌<◌, Bool, cond, T, List, [], ◌∷◌, Some, None, Ok, Err, Option, Result, ◌==◌}
 use mathlib.Core.List.{Memᴰ}
 use Rattle.fault.specs.declared.Fault.{Fault}
-use Rattle.fault.specs.declared.Refusal.{Refusal}
 use Rattle.flow.specs.declared.key.FlowKey.{FlowKey}
 use Rattle.chain.specs.declared.way.Link.{Link}
 use Rattle.chain.specs.declared.way.Way.{Way}

@@ -1,17 +1,14 @@
 -- Rules that come near and are not meant: each breaks a promise, in a run that is written out in the proof. Assumes nothing.
-use Rattle.std.specs.Prelude.{◌≡◌, ℕ, Bool, true, false, cond, Some, None, Option, ◌≢◌}
+use Rattle.std.specs.Prelude.{◌≡◌, ℕ, Bool, cond, Some, None, ◌≢◌}
 use Rattle.fault.specs.declared.Refusal.{Refusal}
 use Rattle.flow.specs.declared.key.FlowKey.{FlowKey}
 use Rattle.chain.specs.declared.way.Link.{Link}
 use Rattle.chain.specs.declared.way.Way.{Way}
 use Rattle.chain.specs.declared.way.Way.TheVariants.{Up, Down, Asked}
-use Rattle.chain.specs.declared.way.Packet.{Packet}
 use Rattle.chain.specs.declared.place.Standing.{Standing}
 use Rattle.chain.specs.declared.place.Standing.TheVariants.{Never, Stands, Forgotten}
-use Rattle.chain.specs.declared.place.Place.{Place}
 use Rattle.chain.specs.declared.place.Entry.{Entry}
 use Rattle.chain.specs.declared.place.Entry.TheVariants.{Open, Vacant, Full}
-use Rattle.chain.specs.declared.place.Outcome.{Outcome}
 use Rattle.chain.specs.declared.place.Outcome.TheVariants.{Refused}
 use Rattle.chain.specs.Places.{handle}
 use Rattle.bucket.specs.Sessions.{count}

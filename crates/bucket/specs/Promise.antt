@@ -1,5 +1,5 @@
 -- What is promised of one bucket, whatever is late, lost, repeated or out of order, and whatever balancers know. Assumes nothing.
-use Rattle.std.specs.Prelude.{◌≡◌, ℕ, zero, suc, ◌+◌, ◌*◌, ◌<◌, ◌≤◌, Bool, true, false, cond, ◌⊎◌, Some, None, Option}
+use Rattle.std.specs.Prelude.{◌≡◌, ℕ, zero, suc, ◌+◌, ◌*◌, ◌<◌, ◌≤◌, Bool, true, false, cond, ◌⊎◌, Some, None}
 use mathlib.Core.List.{Memᴰ}
 use Rattle.fault.specs.declared.Refusal.{Refusal}
 use Rattle.flow.specs.declared.key.FlowKey.{FlowKey}

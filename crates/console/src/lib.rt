@@ -59,10 +59,10 @@ pub fn is_asked(rt: &HostRuntime, name: &str, help: &str) -> anyhow::Result<bool
 pub fn stop(heap: Global, line: u64, error: Error) -> anyhow::Error {
     match error {
         Error::Of(fault) => match format!(in heap; "{}", FaultText { line, fault }) {
-            Ok(text) => text.into(),
-            Err(_) => "no memory".into(),
+            Ok(text) => anyhow!(text),
+            Err(_) => anyhow!("no memory"),
         },
-        Error::Memory => "no memory".into(),
+        Error::Memory => anyhow!("no memory"),
     }
 }
 

@@ -93,7 +93,6 @@ impl Hall {
 
     fn print_letter(&self, rt: &HostRuntime, letter: &Letter) -> anyhow::Result<()> {
         print!(rt;
-           
             "  on its way {}, {} to {}: ",
             letter.number,
             MachineText(letter.from),

@@ -1,5 +1,5 @@
 -- An array turned by one, with a new first element: the front of it. Assumes nothing.
-use Rattle.std.proofs.Common.{◌≡◌, ℕ, suc, ◌+◌, ◌-◌, ◌<◌, ◌≤◌, List, [], ◌∷◌, ◌++◌, length, take, drop, set, refl, ap, add-one, arith}
+use Rattle.std.proofs.Common.{◌≡◌, ℕ, ◌+◌, ◌-◌, ◌<◌, List, [], ◌∷◌, ◌++◌, length, take, drop, set, refl, ap, add-one, arith}
 use Rattle.std.proofs.lemmas.List.{length-drop, take-take}
 
 one_left : {A : Type 0} (ds ts : List A) (x : A) → length ds ≡ 1 → set (ds ++ ts) 0 x ≡ x ∷ ts

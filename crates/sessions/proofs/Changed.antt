@@ -1,22 +1,21 @@
 -- One slot is changed at one key: all entries are changed at that key alone, and the invariant stands. Assumes nothing.
-use Rattle.std.proofs.Common.{◌≡◌, ℕ, zero, suc, ◌+◌, ◌-◌, ◌/◌, ◌<◌, ◌≤◌, Bool, true, false, cond, ◌⊎◌, List, [], ◌∷◌, ◌++◌, length, get_or, set, Some, None, Option, sym, refl, ap, ◌∙◌, inl, inr, arith}
-use Rattle.std.proofs.lemmas.List.{length-set, length_push, get_or-set_same, get_or-set_other, set-get_or}
+use Rattle.std.proofs.Common.{◌≡◌, ℕ, ◌+◌, ◌/◌, ◌<◌, ◌≤◌, Bool, true, false, cond, List, [], ◌∷◌, ◌++◌, length, get_or, set, Some, None, Option, sym, refl, ◌∙◌, inl, inr, arith}
+use Rattle.std.proofs.lemmas.List.{length-set, length_push, get_or-set_same, get_or-set_other}
 use Rattle.std.proofs.lemmas.List.Sums.{sum_by_push}
-use Rattle.std.proofs.ByRecursion.{All-push, All-weaker}
+use Rattle.std.proofs.ByRecursion.{All-weaker}
 use Rattle.std.proofs.lemmas.Bool.{cases_Bool, cases_eq}
-use Rattle.std.specs.List.{AllByRecursion as All}
 use Rattle.sessions.specs.declared.key.Key.{Key}
 use Rattle.sessions.specs.declared.entry.Entry.{Entry}
 use Rattle.sessions.specs.declared.tally.Tally.{Tally}
 use Rattle.sessions.specs.Keys.{same_key, slot_of, in_place}
-use Rattle.sessions.specs.Entries.{seen_in, noted, without, count_in, Once}
-use Rattle.sessions.specs.Slots.{flat, tidy, fresh}
+use Rattle.sessions.specs.Entries.{seen_in, noted, without, Once}
+use Rattle.sessions.specs.Slots.{flat, fresh}
 use Rattle.sessions.specs.Tallies.{tallied_in}
-use Rattle.sessions.specs.Kept.{InSlots, Numbered, Listed, Tallied, NoneBefore, Grouped, Bounded}
+use Rattle.sessions.specs.Kept.{Bounded}
 use Rattle.sessions.specs.Model.{one, touched, Changed}
 use Rattle.sessions.proofs.Same.{same_eq, same_flip, slot_below}
-use Rattle.sessions.proofs.Changes.{seen_push, seen_noted, seen_without, noted_miss, without_miss, count_noted, count_without, length_noted, length_without, once_push, once_noted, once_without, all_noted, all_without}
-use Rattle.sessions.proofs.Files.{Filed, Tidy, Fresh, tidy_in, tidy_out, fresh_in, fresh_out, tidy_slot, tidy_set, seen_flat, seen_set, all_slot, all_flat_set, length_set_slot, count_set_slot}
+use Rattle.sessions.proofs.Changes.{seen_push, seen_noted, seen_without, noted_miss, without_miss, count_noted, count_without, length_noted, length_without}
+use Rattle.sessions.proofs.Files.{Filed, Tidy, Fresh, tidy_in, tidy_out, fresh_in, fresh_out, tidy_set, seen_flat, seen_set, all_flat_set, length_set_slot, count_set_slot}
 use Rattle.sessions.proofs.Stores.{Holds}
 
 -- at one slot

@@ -1,14 +1,14 @@
 -- One entry more, one changed, one less: what is found, how many there are, and that each key stands once. Assumes nothing.
-use Rattle.std.proofs.Common.{◌≡◌, ℕ, zero, suc, ◌+◌, ◌<◌, ◌≤◌, Bool, true, false, cond, ◌⊎◌, List, [], ◌∷◌, ◌++◌, length, get_or, take, drop, set, is_some, Some, None, Option, sym, refl, ap, ◌∙◌, inl, inr, arith}
-use Rattle.std.proofs.lemmas.Bool.{cases_Bool, both_ways}
-use Rattle.std.proofs.lemmas.List.Sums.{sum_by-cons, sum_by_push}
+use Rattle.std.proofs.Common.{◌≡◌, ℕ, zero, suc, ◌+◌, Bool, true, cond, List, [], ◌∷◌, ◌++◌, length, get_or, set, Some, None, sym, refl, ap, ◌∙◌, inl, inr, arith}
+use Rattle.std.proofs.lemmas.Bool.{cases_Bool}
+use Rattle.std.proofs.lemmas.List.Sums.{sum_by-cons}
 use Rattle.std.specs.List.{remove, AllByRecursion as All}
 use Rattle.sessions.specs.declared.key.Key.{Key}
 use Rattle.sessions.specs.declared.entry.Entry.{Entry}
 use Rattle.sessions.specs.Keys.{same_key, in_place}
 use Rattle.sessions.specs.Found.{Misses, HitAt}
 use Rattle.sessions.specs.Entries.{seen_in, Once, without, noted, count_in}
-use Rattle.sessions.proofs.Same.{same_refl, same_eq, same_flip}
+use Rattle.sessions.proofs.Same.{same_eq, same_flip}
 use Rattle.sessions.proofs.Lists.{misses_rest, hit_rest}
 
 abbrev has : Key → Entry → Bool

@@ -1,5 +1,5 @@
 -- Groups of sixteen slots and their bounds. Assumes nothing.
-use Rattle.std.proofs.Common.{◌≡◌, ℕ, zero, suc, ◌+◌, ◌-◌, ◌*◌, ◌/◌, ◌<◌, ◌≤◌, Bool, true, false, ◌⊎◌, List, [], ◌∷◌, ◌++◌, map, length, get_or, take, drop, set, vec_items, Vec, sym, refl, ap, ◌∙◌, inl, inr, append_assoc, arith}
+use Rattle.std.proofs.Common.{◌≡◌, ℕ, suc, ◌+◌, ◌-◌, ◌*◌, ◌/◌, ◌<◌, ◌≤◌, false, List, [], ◌∷◌, ◌++◌, map, length, get_or, take, drop, set, vec_items, Vec, sym, refl, ap, ◌∙◌, inl, inr, append_assoc, arith}
 use Rattle.std.proofs.lemmas.List.{take-append-drop, drop-drop, map-append, take-map, drop-map, get_or-take, get_or-drop, get_or_past, get_or-set_same, get_or-set_other, length-take}
 use Rattle.std.proofs.ByRecursion.{All-append, All-weaker}
 use Rattle.std.proofs.lemmas.Bool.{cases_eq, cases_lt}
@@ -7,8 +7,8 @@ use Rattle.std.specs.declared.alloc.Global.{Global}
 use Rattle.sessions.specs.declared.key.Key.{Key}
 use Rattle.sessions.specs.declared.entry.Entry.{Entry}
 use Rattle.sessions.specs.Entries.{is_idle, idle_keys}
-use Rattle.sessions.specs.Kept.{Grouped, Bounded}
-use Rattle.sessions.specs.Slots.{flat, fresh}
+use Rattle.sessions.specs.Kept.{Bounded}
+use Rattle.sessions.specs.Slots.{flat}
 use Rattle.sessions.proofs.Files.{Fresh, fresh_in, fresh_out, all_slot}
 use Rattle.sessions.proofs.Lapse.{keys_append, fresh_keys}
 

@@ -12,7 +12,7 @@ use Rattle.sessions.specs.Kept.{Grouped, Bounded}
 use Rattle.sessions.specs.Model.{entries_of, Lapsed, Lapsing}
 use Rattle.sessions.proofs.Files.{Fresh, tidy_in, fresh_in, fresh_out, once_flat, ascends_flat}
 use Rattle.sessions.proofs.Stores.{Holds}
-use Rattle.sessions.proofs.Steps.{slots_of, tallies_of, holds}
+use Rattle.sessions.proofs.Steps.{slots_of, tallies_of}
 use Rattle.sessions.proofs.Groups.{fresh_flat, under_all}
 use Rattle.sessions.proofs.Lapse.{fresh_keys, fresh_stay, seen_stays, taken_idle}
 

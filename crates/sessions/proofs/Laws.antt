@@ -1,14 +1,11 @@
 -- What holds of every store, and of every clock. Assumes nothing.
-use Rattle.std.proofs.Common.{◌≡◌, ℕ, ◌+◌, ◌*◌, ◌^◌, ◌<◌, ◌≤◌, Bool, true, false, cond, ◌⊎◌, List, [], ◌∷◌, length, is_some, Some, None, sum, Option, sym, refl, ap, ◌∙◌, inl, inr, arith}
+use Rattle.std.proofs.Common.{◌≡◌, ℕ, ◌+◌, ◌^◌, ◌<◌, ◌≤◌, true, cond, List, [], ◌∷◌, is_some, Some, None, Option, refl, ap, ◌∙◌, inl, inr, arith}
 use Rattle.std.proofs.ByRecursion.{All-weaker, sum_by_le}
-use Rattle.std.proofs.lemmas.List.Sums.{sum_by-cons}
 use Rattle.std.proofs.lemmas.Bool.{cases_Bool}
-use Rattle.std.specs.List.{AllByRecursion as All}
-use Rattle.sessions.specs.declared.clock.Clock.{Clock}
 use Rattle.sessions.specs.declared.key.Key.{Key}
 use Rattle.sessions.specs.declared.entry.Entry.{Entry}
 use Rattle.sessions.specs.declared.store.Sessions.{Sessions}
-use Rattle.sessions.specs.Clocks.{Advanced, Lasting}
+use Rattle.sessions.specs.Clocks.{Lasting}
 use Rattle.sessions.specs.Keys.{same_key, in_place}
 use Rattle.sessions.specs.Entries.{seen_in, count_in}
 use Rattle.sessions.specs.Model.{entries_of, Sound}

@@ -1,8 +1,8 @@
 -- Two keys that the test takes for the same are equal, and each is the same as itself. Assumes nothing.
-use Rattle.std.proofs.Common.{◌≡◌, ℕ, ◌+◌, ◌*◌, ◌^◌, ◌<◌, Bool, true, false, ◌&&◌, eqb, ◌⊎◌, sym, refl, ap, ◌∙◌, inl, inr, arith}
-use Rattle.std.proofs.lemmas.Bool.{cases_Bool, both_ways, and_parts, and_from, eqb-true, eq-eqb}
+use Rattle.std.proofs.Common.{◌≡◌, ℕ, ◌+◌, ◌*◌, ◌^◌, ◌<◌, true, sym, refl, ◌∙◌, inl, inr, arith}
+use Rattle.std.proofs.lemmas.Bool.{cases_Bool, and_parts, and_from, eqb-true, eq-eqb}
 use Rattle.flow.specs.declared.key.FlowKey.{FlowKey}
-use Rattle.flow.specs.Key.{same_flow, protocol_number}
+use Rattle.flow.specs.Key.{protocol_number}
 use Rattle.flow.proofs.Same as flows
 use Rattle.sessions.specs.declared.key.Key.{Key}
 use Rattle.sessions.specs.Keys.{same_key, slot_of, weigh}

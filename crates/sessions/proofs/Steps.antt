@@ -1,23 +1,22 @@
 -- Each operation at the fields of a store: its slots, its tallies, its numbers. Assumes nothing.
-use Rattle.std.proofs.Common.{◌≡◌, ℕ, zero, suc, ◌+◌, ◌-◌, ◌/◌, ◌<◌, ◌≤◌, min, Bool, true, false, cond, ◌&&◌, eqb, ◌⊎◌, List, [], ◌∷◌, ◌++◌, map, length, get_or, set, is_some, Some, None, vec_items, vec_len, Option, Vec, sym, refl, ap, ◌∙◌, subst, inl, inr, arith}
-use Rattle.std.proofs.lemmas.List.{map-set, length-map, length-set, get_or-set_same, get_or-set_other, set-get_or, set-set}
+use Rattle.std.proofs.Common.{◌≡◌, ℕ, ◌+◌, ◌-◌, ◌/◌, ◌<◌, ◌≤◌, min, Bool, true, false, cond, eqb, List, [], ◌∷◌, ◌++◌, map, length, get_or, set, is_some, Some, None, vec_items, vec_len, Option, Vec, sym, refl, ap, ◌∙◌, inl, inr, arith}
+use Rattle.std.proofs.lemmas.List.{map-set, length-set, get_or-set_same, get_or-set_other, set-get_or, set-set}
 use Rattle.std.proofs.ByRecursion.{All-push, All-weaker}
-use Rattle.std.proofs.lemmas.Bool.{cases_Bool, cases_eq, ne_eqb, eq-eqb, eqb-true, false≢true}
+use Rattle.std.proofs.lemmas.Bool.{cases_eq, ne_eqb, eq-eqb, eqb-true, false≢true}
 use Rattle.std.specs.declared.alloc.Global.{Global}
-use Rattle.std.specs.List.{AllByRecursion as All}
 use Rattle.sessions.specs.declared.key.Key.{Key}
 use Rattle.sessions.specs.declared.entry.Entry.{Entry}
 use Rattle.sessions.specs.declared.tally.Tally.{Tally}
 use Rattle.sessions.specs.declared.store.Sessions.{Sessions}
-use Rattle.sessions.specs.Keys.{same_key, slot_of, in_place}
-use Rattle.sessions.specs.Entries.{seen_in, noted, without, count_in}
+use Rattle.sessions.specs.Keys.{slot_of, in_place}
+use Rattle.sessions.specs.Entries.{seen_in, noted, without}
 use Rattle.sessions.specs.Slots.{flat}
 use Rattle.sessions.specs.Tallies.{tallied_in}
 use Rattle.sessions.specs.Ages.{Lowered}
 use Rattle.sessions.specs.Model.{entries_of, one, touched, Changed}
 use Rattle.sessions.proofs.Same.{slot_below}
 use Rattle.sessions.proofs.Changes.{noted_miss, without_miss, count_without, length_without, once_push, once_noted, once_without, all_noted, all_without}
-use Rattle.sessions.proofs.Files.{Filed, Tidy, Fresh, tidy_in, fresh_in, tidy_slot, seen_flat, all_slot, without_flat}
+use Rattle.sessions.proofs.Files.{Filed, Fresh, tidy_in, fresh_in, tidy_slot, seen_flat, all_slot, without_flat}
 use Rattle.sessions.proofs.Stores.{Holds, slot_at, long, count_few}
 use Rattle.sessions.proofs.Changed.{nothing, noted_slot, without_slot, push_slot, changed_all, Retallied, changed_holds}
 

@@ -1,6 +1,6 @@
 -- The fields of a store: lists of Vecs as lists of lists, and what one changed slot leaves of the invariant. Assumes nothing.
-use Rattle.std.proofs.Common.{◌≡◌, ℕ, zero, suc, ◌+◌, ◌-◌, ◌<◌, ◌≤◌, Bool, true, false, cond, ◌⊎◌, List, [], ◌∷◌, ◌++◌, map, length, get_or, set, Some, None, vec_items, vec_len, Option, Vec, sym, refl, ap, ◌∙◌, inl, inr, arith}
-use Rattle.std.proofs.lemmas.List.{get_or-map, map-set, map_push, length-map, set-get_or, get_or-set_same, get_or-set_other}
+use Rattle.std.proofs.Common.{◌≡◌, ℕ, zero, suc, ◌<◌, ◌≤◌, true, List, [], ◌∷◌, ◌++◌, map, length, get_or, vec_items, vec_len, Vec, sym, refl, ap, ◌∙◌, arith}
+use Rattle.std.proofs.lemmas.List.{get_or-map, map_push, length-map}
 use Rattle.std.proofs.ByRecursion.{All-push}
 use Rattle.std.proofs.lemmas.List.Sums.{count_by-le-length}
 use Rattle.std.specs.declared.alloc.Global.{Global}
@@ -8,9 +8,9 @@ use Rattle.std.specs.List.{AllByRecursion as All}
 use Rattle.sessions.specs.declared.key.Key.{Key}
 use Rattle.sessions.specs.declared.entry.Entry.{Entry}
 use Rattle.sessions.specs.declared.tally.Tally.{Tally}
-use Rattle.sessions.specs.Keys.{same_key, slot_of, in_place}
+use Rattle.sessions.specs.Keys.{slot_of, in_place}
 use Rattle.sessions.specs.Entries.{seen_in, count_in}
-use Rattle.sessions.specs.Slots.{flat, tidy, fresh}
+use Rattle.sessions.specs.Slots.{flat, tidy}
 use Rattle.sessions.specs.Tallies.{tallied_in}
 use Rattle.sessions.specs.Kept.{InSlots, Numbered, Listed, Tallied, NoneBefore, Grouped, Bounded}
 use Rattle.sessions.proofs.Same.{slot_below}

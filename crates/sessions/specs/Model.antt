@@ -1,9 +1,8 @@
 -- A store of sessions as a finite map, and what each operation does to it. Assumes nothing.
 use Rattle.std.specs.Prelude.{◌≡◌, ℕ, ◌+◌, ◌<◌, ◌≤◌, true, cond, ◌⊎◌, List, map, length, is_some, Some, None, Ok, Err, vec_items, Option, Result, Vec}
-use Rattle.fault.specs.declared.Fault.{Fault}
 use Rattle.fault.specs.declared.Error.{Error}
 use Rattle.fault.specs.declared.Error.TheVariants.{Of, Memory}
-use Rattle.fault.specs.declared.Fault.TheVariants.{Malformed, NoSuch, BadPacket, UnknownPlace, WrongBucket, WrongAsker, ServerFull, Contradiction, NoServer, ChainFull}
+use Rattle.fault.specs.declared.Fault.TheVariants.{ServerFull}
 use Rattle.std.specs.declared.alloc.Global.{Global}
 use Rattle.std.specs.Map.{update}
 use Rattle.sessions.specs.declared.key.Key.{Key}

@@ -1,8 +1,8 @@
 -- The first fault by its line. Assumes nothing.
-use Rattle.std.proofs.Common.{◌≡◌, ℕ, zero, suc, ◌+◌, ◌<◌, List, [], ◌∷◌, length, get_or, take, sym, refl, ap, ◌∙◌, arith}
+use Rattle.std.proofs.Common.{◌≡◌, ℕ, suc, ◌+◌, ◌<◌, List, [], ◌∷◌, length, get_or, take, refl, ap, ◌∙◌, arith}
 use Rattle.fault.specs.declared.Fault.{Fault}
 use Rattle.settings.specs.Lines.{Written, blank, Next, More, Run, Stop, next}
-use Rattle.settings.specs.Laws.{Reading, AtEnd, AtRun, AtFault, goes, reads_from, reads, First, FirstFault}
+use Rattle.settings.specs.Laws.{Reading, AtEnd, AtRun, AtFault, goes, reads_from, FirstFault}
 
 -- the same of lines that begin with line k
 record From (k : ℕ) (w : Written) (lines : List (List ℕ)) (n : ℕ) (f : Fault) : Type 0 where

@@ -1,5 +1,5 @@
 -- The first fault by its line. Assumes nothing.
-use Rattle.std.specs.Prelude.{◌≡◌, ℕ, suc, ◌+◌, ◌<◌, List, [], ◌∷◌, length, take, slice_index_or}
+use Rattle.std.specs.Prelude.{◌≡◌, ℕ, suc, ◌<◌, List, [], ◌∷◌, length, take, slice_index_or}
 use Rattle.fault.specs.declared.Fault.{Fault}
 use Rattle.settings.specs.Lines.{Written, blank, Next, More, Run, Stop, next}
 

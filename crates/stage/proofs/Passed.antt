@@ -1,5 +1,5 @@
 -- A search through a list, of which a loop sees an equal one, element by element. Assumes nothing.
-use Rattle.std.proofs.Common.{◌≡◌, ℕ, zero, suc, ◌+◌, ◌<◌, ◌≤◌, List, [], ◌∷◌, length, get_or, drop, sym, refl, ap, ◌∙◌, arith}
+use Rattle.std.proofs.Common.{◌≡◌, ℕ, zero, suc, ◌<◌, ◌≤◌, List, [], ◌∷◌, length, get_or, drop, sym, refl, ap, ◌∙◌, arith}
 use Rattle.std.proofs.lemmas.List.{at_drop_all}
 
 pub next_of : {A : Type 0} (ss ts : List A) (i : ℕ) (d : A) → i < length ss → ss ≡ ts → drop i ts ≡ get_or ss i d ∷ drop (suc i) ts

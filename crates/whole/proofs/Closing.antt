@@ -19,7 +19,7 @@ use Rattle.sessions.specs.declared.entry.Entry.{Entry}
 use Rattle.sessions.specs.Keys.{same_key, in_place}
 use Rattle.sessions.specs.Entries as entries
 use Rattle.sessions.specs.Entries.{seen_in, Once, count_in, is_idle, idle_keys, staying}
-use Rattle.sessions.proofs.Same.{same_refl, same_eq}
+use Rattle.sessions.proofs.Same.{same_refl, same_eq, same_flip}
 use Rattle.sessions.proofs.Changed.{without_slot}
 use Rattle.sessions.proofs.Changes.{count_without, once_without}
 use Rattle.sessions.proofs.Lapse.{taken_idle}
@@ -123,7 +123,7 @@ abbrev pub Without : Key → List Entry → List Entry → Type 0
 Without k was after = (q : Key) → seen_in q after ≡ cond (same_key q k) None (seen_in q was)
 
 pub without_found : (k : Key) (es : List Entry) → Once es → Without k es (entries.without k es)
-without_found k es once q = (without_slot k es once).found q
+without_found k es once q = (without_slot k es once).found q ∙ ap (λ e. cond e None (seen_in q es)) (same_flip k q)
 
 not_same : (p q : Key) → (p ≡ q → ⊥) → same_key p q ≡ false
 not_same p q ne = elim (cases_Bool (same_key p q)) [ inl e ↦ absurd (ne (same_eq p q e)) | inr e ↦ e ]

@@ -65,10 +65,10 @@ old_by true t o z = tt
 old_by false t o z = z
 
 pub noted_or : (was after : List Entry) (k q : Key) (t : ℕ) → Changed was after k (Some t) → T (is_some (seen_in q after)) → (q ≡ k) ⊎ T (is_some (seen_in q was))
-noted_or was after k q t c o = elim (either_by (same_key q k) t (seen_in q was) (subst (λ z. T (is_some z)) (c.found q) o)) [ inl e ↦ inl (same_eq q k e) | inr old ↦ inr old ]
+noted_or was after k q t c o = elim (either_by (same_key k q) t (seen_in q was) (subst (λ z. T (is_some z)) (c.found q) o)) [ inl e ↦ inl (sym (same_eq k q e)) | inr old ↦ inr old ]
 
 pub noted_old : (was after : List Entry) (k q : Key) (t : ℕ) → Changed was after k (Some t) → T (is_some (seen_in q was)) → T (is_some (seen_in q after))
-noted_old was after k q t c o = rw (c.found q) (old_by (same_key q k) t (seen_in q was) o)
+noted_old was after k q t c o = rw (c.found q) (old_by (same_key k q) t (seen_in q was) o)
 
 pub noted_new : (was after : List Entry) (k : Key) (t : ℕ) → Changed was after k (Some t) → T (is_some (seen_in k after))
 noted_new was after k t c = rw (c.found k, same_refl k) tt

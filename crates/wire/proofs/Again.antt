@@ -1,31 +1,24 @@
 -- What was written is read again. Assumes nothing.
-use Rattle.std.proofs.Common.{◌≡◌, ℕ, ◌<◌, Bool, true, false, eqb, List, [], ◌∷◌, ◌++◌, length, Some, None, Ok, Err, Option, Result, unwrap_or, sym, refl, ap, ◌∙◌, append_assoc, arith}
+use Rattle.std.proofs.Common.{◌≡◌, ℕ, ◌<◌, Bool, true, false, eqb, List, [], ◌∷◌, ◌++◌, length, Some, None, Ok, Option, unwrap_or, refl, ap, ◌∙◌, append_assoc, arith}
 use Rattle.std.proofs.lemmas.List.{append-nil}
 use Rattle.std.proofs.lemmas.Bool.{eq-eqb, ne_eqb}
-use Rattle.std.proofs.lemmas.Bool.Decides.{nat_tests}
-use Rattle.fault.specs.declared.Fault.{Fault}
 use Rattle.fault.specs.declared.Fault.TheVariants.{Malformed, NoSuch, BadPacket, UnknownPlace, WrongBucket, WrongAsker, ServerFull, Contradiction, NoServer, ChainFull}
 use Rattle.fault.specs.declared.Refusal.{Refusal}
 use Rattle.fault.specs.declared.Refusal.TheVariants.{Nobody, For}
 use Rattle.fault.specs.Numbers.{refusal_number, refusal_of}
-use Rattle.flow.specs.declared.key.Protocol.TheVariants.{Tcp}
-use Rattle.flow.specs.Bytes.{protocol_of}
-use Rattle.flow.specs.Key.{protocol_number}
 use Rattle.flow.proofs.Digits.{of16, of32, protocol_again}
 use Rattle.chain.specs.declared.way.Link.{Link}
 use Rattle.chain.specs.declared.way.Way.{Way}
 use Rattle.chain.specs.declared.way.Way.TheVariants.{Up, Down, Asked}
 use Rattle.chain.specs.Ways.{way_number}
 use Rattle.wire.specs.declared.message.At.{At}
-use Rattle.wire.specs.declared.message.Control.{Control}
 use Rattle.wire.specs.declared.message.Control.TheVariants.{Stand, Behind, Door, Forgotten}
-use Rattle.wire.specs.declared.message.Order.{Order}
 use Rattle.wire.specs.declared.message.Order.TheVariants.{Closed, Added, Removed, Ticks}
 use Rattle.wire.specs.Meant.{Meant, Carried, Said, Answered, Back, Ordered}
 use Rattle.wire.specs.Format.{Width, one, two, four, digits, number_in, Field, Format, read_fields, ended, read_all, put}
-use Rattle.wire.specs.Formats.{stand, behind, door, forgotten, closed, added, removed, ticks, packet, refused, way_of, asker_of, opens_byte, link_of, link_or_none, inside_of}
-use Rattle.wire.specs.Messages.{like, formats, format_in, values, payload, decode, encode, control_values, order_values, head_values}
-use Rattle.wire.specs.Laws.{below, Fits, Real, Proper, ReadAgain}
+use Rattle.wire.specs.Formats.{stand, behind, door, forgotten, closed, added, removed, ticks, packet, refused, way_of, asker_of, opens_byte, link_of, link_or_none}
+use Rattle.wire.specs.Messages.{like, formats, format_in, values, payload, decode}
+use Rattle.wire.specs.Laws.{below, Fits, Real, ReadAgain}
 use Rattle.wire.proofs.Cuts.{number_whole, decode_kind}
 
 number_back : (w : Width) (n : ℕ) (tail : List ℕ) → n < below w → number_in w (digits w n ++ tail) ≡ Ok (n, tail)

@@ -1,7 +1,7 @@
 -- A message that is cut or followed by anything is malformed. Assumes nothing.
-use Rattle.std.proofs.Common.{◌≡◌, ℕ, ◌+◌, ◌<◌, ◌≤◌, true, false, cond, eqb, ltb, ◌⊎◌, List, [], ◌∷◌, ◌++◌, length, get_or, drop, Some, None, Ok, Err, Option, Result, sym, refl, ap, ◌∙◌, inl, inr, arith, length-append}
+use Rattle.std.proofs.Common.{◌≡◌, ℕ, ◌+◌, ◌<◌, ◌≤◌, cond, eqb, ◌⊎◌, List, [], ◌∷◌, ◌++◌, length, drop, Some, None, Ok, Err, Option, Result, sym, refl, ap, ◌∙◌, inl, inr, arith, length-append}
 use Rattle.std.proofs.lemmas.List.{get_or_append_left, drop-append-le}
-use Rattle.std.proofs.lemmas.Bool.{lt-ltb, le-ltb, cases_lt, ne_eqb, eqb-true}
+use Rattle.std.proofs.lemmas.Bool.{le-ltb, cases_lt, ne_eqb}
 use Rattle.std.proofs.lemmas.Bool.Decides.{nat_tests}
 use Rattle.fault.specs.declared.Fault.{Fault}
 use Rattle.fault.specs.declared.Fault.TheVariants.{Malformed}
@@ -9,9 +9,9 @@ use Rattle.wire.specs.declared.message.At.{At}
 use Rattle.wire.specs.declared.message.Unread.{Unread}
 use Rattle.wire.specs.Stops.{located, unplaced}
 use Rattle.wire.specs.Meant.{Meant}
-use Rattle.wire.specs.Format.{Width, one, two, four, size, value, number_in, Field, Format, judged, sound, read_field, read_fields, onward, stopped, ended, read_all}
+use Rattle.wire.specs.Format.{Width, one, two, four, size, value, number_in, Field, Format, judged, read_fields, onward, stopped, ended, read_all}
 use Rattle.wire.specs.Messages.{formats, format_in, read_by, behind_kind, decode}
-use Rattle.wire.specs.Laws.{Refused, Cut, TooMany}
+use Rattle.wire.specs.Laws.{Cut, TooMany}
 use Rattle.wire.proofs.Numbers.{number_cut}
 
 value_front : (w : Width) (xs ys : List ℕ) → size w ≤ length xs → value w (xs ++ ys) ≡ value w xs

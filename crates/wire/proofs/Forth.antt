@@ -1,6 +1,5 @@
 -- What was read is written again as the same bytes. Assumes nothing.
-use Rattle.std.proofs.Common.{◌≡◌, ℕ, suc, ◌+◌, ◌*◌, ◌/◌, ◌%◌, ◌<◌, ◌≤◌, Bool, true, false, cond, eqb, List, [], ◌∷◌, ◌++◌, length, get_or, take, drop, is_some, Some, None, Ok, Err, Option, Result, unwrap_or, sym, refl, ap, ◌∙◌, inl, inr, append_assoc, arith}
-use Rattle.std.proofs.lemmas.Nat.{div-mul-add, mod-mul-add}
+use Rattle.std.proofs.Common.{◌≡◌, ℕ, suc, ◌+◌, ◌*◌, ◌/◌, ◌%◌, ◌<◌, ◌≤◌, cond, eqb, List, [], ◌∷◌, ◌++◌, length, get_or, take, drop, is_some, Some, None, Ok, Err, Option, Result, unwrap_or, sym, refl, ap, ◌∙◌, inl, inr, append_assoc, arith}
 use Rattle.std.proofs.lemmas.List.{append-nil, get_or-drop, take-append-drop, nil_from_length}
 use Rattle.std.proofs.lemmas.Bool.{cases_lt, cases_Bool, eqb-true, cond-true, cond-false}
 use Rattle.std.proofs.lemmas.Bool.Decides.{nat_tests}
@@ -17,16 +16,15 @@ use Rattle.chain.specs.declared.way.Link.{Link}
 use Rattle.chain.specs.Ways.{way_number}
 use Rattle.wire.specs.declared.message.Head.{Head}
 use Rattle.wire.specs.declared.message.At.{At}
-use Rattle.wire.specs.declared.message.Unread.{Unread}
 use Rattle.wire.specs.declared.message.Control.{Control}
 use Rattle.wire.specs.declared.message.Control.TheVariants.{Stand, Behind, Door, Forgotten}
 use Rattle.wire.specs.declared.message.Order.{Order}
 use Rattle.wire.specs.declared.message.Order.TheVariants.{Closed, Added, Removed, Ticks}
 use Rattle.wire.specs.Stops.{unplaced}
 use Rattle.wire.specs.Meant.{Meant, Carried, Said, Answered, Back, Ordered}
-use Rattle.wire.specs.Format.{Width, one, two, four, size, value, digits, number_in, Field, Format, judged, read_fields, onward, stopped, ended, read_all, put}
+use Rattle.wire.specs.Format.{Width, one, two, four, size, value, digits, Field, Format, judged, read_fields, onward, stopped, read_all, put}
 use Rattle.wire.specs.Formats.{stand, behind, door, forgotten, closed, added, removed, ticks, packet, refused, link_of, link_or_none, way_of, asker_of, opens_byte, inside_of, carried_by, unless, among, fixed, reached, nowhere}
-use Rattle.wire.specs.Messages.{map_ok, like, formats, format_in, fields_of, read_by, kind_of, values, payload, decode, encode, control_kind, control_values, order_kind, order_values}
+use Rattle.wire.specs.Messages.{like, formats, format_in, read_by, kind_of, values, payload, encode, control_kind, control_values, order_kind, order_values}
 use Rattle.wire.specs.Laws.{below, Fits, RealControl, TrueTo, Proper, Bytes, WrittenAgain}
 use Rattle.wire.proofs.Numbers.{number_cut}
 use Rattle.wire.proofs.Cuts.{number_whole, never, same_ok, ended_ok, decode_kind, decode_none}

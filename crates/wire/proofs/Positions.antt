@@ -1,5 +1,5 @@
 -- The fault that is told is that of the first position that has one. Assumes nothing.
-use Rattle.std.proofs.Common.{◌≡◌, ℕ, zero, suc, ◌+◌, ◌<◌, ◌≤◌, Bool, true, false, cond, eqb, ltb, ◌⊎◌, List, [], ◌∷◌, ◌++◌, length, get_or, take, drop, Some, None, Ok, Err, Option, Result, sym, refl, ap, ◌∙◌, inl, inr, append_assoc, arith, length-drop}
+use Rattle.std.proofs.Common.{◌≡◌, ℕ, zero, suc, ◌+◌, ◌<◌, ◌≤◌, Bool, true, false, cond, eqb, ltb, List, [], ◌∷◌, ◌++◌, length, get_or, take, drop, Some, None, Ok, Err, Option, Result, sym, refl, ap, ◌∙◌, inl, inr, append_assoc, arith, length-drop}
 use Rattle.std.proofs.lemmas.List.{append-nil, drop-drop, take_all}
 use Rattle.std.proofs.lemmas.Bool.{lt-ltb, le-ltb, cases_lt, ne_eqb, eq-eqb, cases_order}
 use Rattle.std.proofs.lemmas.Bool.Decides.{nat_tests}
@@ -7,12 +7,12 @@ use Rattle.fault.specs.declared.Fault.{Fault}
 use Rattle.fault.specs.declared.Fault.TheVariants.{Malformed}
 use Rattle.wire.specs.declared.message.At.{At}
 use Rattle.wire.specs.declared.message.Unread.{Unread}
-use Rattle.wire.specs.Stops.{located, unplaced}
+use Rattle.wire.specs.Stops.{located}
 use Rattle.wire.specs.Meant.{Meant}
-use Rattle.wire.specs.Format.{Width, size, value, Field, Format, judged, read_field, read_fields, onward, stopped, ended, read_all}
+use Rattle.wire.specs.Format.{size, value, Field, Format, judged, read_fields, onward, stopped, ended, read_all}
 use Rattle.wire.specs.Formats.{unless}
-use Rattle.wire.specs.Messages.{formats, format_in, read_by, decode}
-use Rattle.wire.specs.Laws.{offset, values_in, wrong_at, field_fault, fault_in, tail_in, fault_at, First, Sound, ByPosition, FirstFault, NoKind}
+use Rattle.wire.specs.Messages.{formats, format_in, read_by}
+use Rattle.wire.specs.Laws.{offset, values_in, wrong_at, field_fault, fault_in, tail_in, fault_at, ByPosition, FirstFault, NoKind}
 use Rattle.wire.proofs.Numbers.{number_cut}
 use Rattle.wire.proofs.Cuts.{number_whole, decode_kind}
 

@@ -1,9 +1,8 @@
 -- The formats of messages: their fields in order, and what is wrong with a value. Assumes nothing.
-use Rattle.std.specs.Prelude.{ℕ, Bool, true, false, cond, List, [], ◌∷◌, ◌++◌, length, is_some, Some, None, Ok, Err, Option, Result, ◌==◌, nat_lt, slice_index}
+use Rattle.std.specs.Prelude.{ℕ, Bool, true, false, cond, List, [], ◌∷◌, is_some, Some, None, Ok, Err, Option, Result, ◌==◌, nat_lt, slice_index}
 use Rattle.std.specs.Option.{unwrap_or}
 use Rattle.fault.specs.declared.Fault.{Fault}
-use Rattle.fault.specs.declared.Fault.TheVariants.{Malformed, NoSuch, BadPacket, WrongBucket, WrongAsker}
-use Rattle.fault.specs.declared.Refusal.{Refusal}
+use Rattle.fault.specs.declared.Fault.TheVariants.{NoSuch, BadPacket, WrongBucket, WrongAsker}
 use Rattle.fault.specs.declared.Refusal.TheVariants.{Nobody}
 use Rattle.fault.specs.Numbers.{refusal_of}
 use Rattle.flow.specs.declared.key.FlowKey.{FlowKey}
@@ -21,7 +20,7 @@ use Rattle.wire.specs.declared.message.Control.TheVariants.{Stand, Behind, Door,
 use Rattle.wire.specs.declared.message.Head.{Head}
 use Rattle.wire.specs.declared.message.Order.{Order}
 use Rattle.wire.specs.declared.message.Order.TheVariants.{Closed, Added, Removed, Ticks}
-use Rattle.wire.specs.Meant.{Meant, Carried, Said, Answered, Back, Ordered}
+use Rattle.wire.specs.Meant.{Meant, Carried, Back}
 use Rattle.wire.specs.Format.{Width, one, two, four, Field, Format}
 
 -- a fault where the test fails

@@ -1,5 +1,5 @@
 -- A format with another meaning is read as before, and a kind leads to its format. Assumes nothing.
-use Rattle.std.proofs.Common.{◌≡◌, ℕ, Bool, true, false, cond, eqb, List, [], ◌∷◌, length, Some, Ok, Err, Option, Result, sym, refl, ap, ◌∙◌}
+use Rattle.std.proofs.Common.{◌≡◌, ℕ, Bool, true, false, cond, eqb, List, [], length, Some, Ok, Err, Option, Result, sym, refl, ap, ◌∙◌}
 use Rattle.fault.specs.declared.Fault.{Fault}
 use Rattle.fault.specs.declared.Fault.TheVariants.{Malformed}
 use Rattle.wire.specs.declared.message.At.{At}

@@ -1,7 +1,7 @@
 -- A fault of the may-open byte stops the reading of the packet.
-use Rattle.std.proofs.Common.{◌≡◌, [], ◌∷◌, sym, ap, ◌∙◌}
+use Rattle.std.proofs.Common.{[], ◌∷◌, sym, ap}
 use Rattle.std.proofs.lemmas.Result.{err_from_is_err_and}
-use Rattle.wire.specs.Format.{two, read_fields, ended}
+use Rattle.wire.specs.Format.{two, ended}
 use Rattle.wire.specs.Formats.{way_f, asker_f, asker_server_f, may_open_f, plain_f, reached, packet}
 use Rattle.wire_packet.proofs.Fields.{resumes}
 use Rattle.wire_packet.proofs.read_carried.Goals as goal

@@ -1,5 +1,5 @@
 -- Quotas, then what is kept, then what is dealt.
-use Rattle.std.proofs.Common.{◌≡◌, ℕ, ◌<◌, get_or, sym, ap, ◌∙◌, arith}
+use Rattle.std.proofs.Common.{◌≡◌, ℕ, ◌<◌, get_or, ◌∙◌, arith}
 use Rattle.assignment.specs.Even.{count}
 use Rattle.assignment.specs.Rule.{quotas, rebalanced}
 use Rattle.assignment.proofs.Sums.{quotas_same}

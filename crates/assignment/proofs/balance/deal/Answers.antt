@@ -1,5 +1,5 @@
 -- The buckets without a server go to the servers in turn.
-use Rattle.std.proofs.Common.{◌≡◌, ℕ, ◌<◌, sym, refl, ◌∙◌, arith}
+use Rattle.std.proofs.Common.{◌∙◌, arith}
 use Rattle.assignment.proofs.Steps.{deal_here, deal_stays, same_none, same_end, none_spent}
 use Rattle.assignment.proofs.balance.deal.Goals as goal
 use Rattle.assignment.proofs.balance.deal.Goals.{then-assignment-b+else-quota-i-eq0, else-assignment-b}

@@ -1,10 +1,10 @@
 -- A bucket stays with a listed server that has quota left, or has none.
-use Rattle.std.proofs.Common.{◌≡◌, ℕ, ◌-◌, ◌<◌, length, get_or, sym, refl, ap, ◌∙◌, inl, inr, arith}
+use Rattle.std.proofs.Common.{◌≡◌, ◌-◌, length, get_or, sym, refl, ap, ◌∙◌, inl, inr, arith}
 use Rattle.std.proofs.lemmas.List.{get_or_past}
 use Rattle.std.proofs.lemmas.Bool.{cases_lt}
 use Rattle.assignment.proofs.Servers.{place_most, place_least}
 use Rattle.assignment.specs.Rule.{kept, kept_quota}
-use Rattle.assignment.proofs.Steps.{Whole, whole_end, keep_stays, keep_none}
+use Rattle.assignment.proofs.Steps.{whole_end, keep_stays, keep_none}
 use Rattle.assignment.proofs.balance.keep.Goals as goal
 use Rattle.assignment.proofs.balance.keep.Goals.{else-servers-i-via-then-servers-i+else-quota-i-gt0, else-servers-i-via-else-servers-i}
 

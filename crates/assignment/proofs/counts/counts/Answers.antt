@@ -1,5 +1,5 @@
 -- One bucket more is counted.
-use Rattle.std.proofs.Common.{◌≡◌, ℕ, suc, ◌+◌, ◌<◌, length, get_or, drop, set, replicate, sym, refl, ap, ◌∙◌, arith}
+use Rattle.std.proofs.Common.{◌≡◌, ◌+◌, get_or, drop, refl, ap, ◌∙◌, arith}
 use Rattle.std.proofs.lemmas.List.{get_or-replicate, length-set, at_drop_all}
 use Rattle.assignment.specs.Even.{count}
 use Rattle.assignment.proofs.Servers.{counted, passed_over, count_le, count_drop_le}

@@ -1,9 +1,9 @@
 -- One bucket more changes hands, or stays.
-use Rattle.std.proofs.Common.{◌≡◌, ℕ, ◌+◌, true, false, List, [], ◌∷◌, ◌++◌, length, get_or, drop, vec_items, sym, refl, ap, ◌∙◌, arith}
+use Rattle.std.proofs.Common.{◌≡◌, [], ◌++◌, get_or, drop, vec_items, sym, ap, ◌∙◌, arith}
 use Rattle.std.proofs.lemmas.List.{append-nil, drop_all}
 use Rattle.std.proofs.lemmas.Bool.Decides.{nat_tests}
 use Rattle.std.specs.Option.{option_to_list}
-use Rattle.assignment.specs.Moves.{moves_from, comparable, handed}
+use Rattle.assignment.specs.Moves.{moves_from, handed}
 use Rattle.assignment.proofs.Handovers.{moves_again}
 use Rattle.assignment.proofs.moves.moves.Goals as goal
 use Rattle.assignment.proofs.moves.moves.Goals.{in-Some+in_ok-push, in_default}

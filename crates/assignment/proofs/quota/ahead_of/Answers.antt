@@ -1,8 +1,8 @@
 -- One server more is ahead, or not.
-use Rattle.std.proofs.Common.{◌≡◌, ℕ, suc, ◌+◌, true, false, get_or, drop, sym, refl, ap, ◌∙◌, arith}
+use Rattle.std.proofs.Common.{◌≡◌, ℕ, ◌+◌, true, false, get_or, drop, sym, ◌∙◌, arith}
 use Rattle.std.proofs.lemmas.List.{at_drop_all}
 use Rattle.assignment.specs.Rule.{rank, ahead}
-use Rattle.assignment.proofs.Servers.{one, rank_step, sum_le_length}
+use Rattle.assignment.proofs.Servers.{rank_step, sum_le_length}
 use Rattle.assignment.proofs.quota.ahead_of.Goals as goal
 use Rattle.assignment.proofs.quota.ahead_of.Goals.{then-is_ahead, else-is_ahead}
 

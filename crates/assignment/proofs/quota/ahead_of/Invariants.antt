@@ -1,5 +1,5 @@
 -- The invariant of the loop that counts the servers ahead.
-use Rattle.std.proofs.Common.{◌≡◌, ◌+◌, cond, get_or, drop}
+use Rattle.std.proofs.Common.{◌≡◌, ◌+◌, get_or, drop}
 use Rattle.assignment.specs.Rule.{rank}
 use Rattle.assignment.proofs.quota.ahead_of.Given as goal
 

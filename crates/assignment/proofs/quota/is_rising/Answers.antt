@@ -1,5 +1,5 @@
 -- The rest rises from the next number on.
-use Rattle.std.proofs.Common.{◌≡◌, ℕ, suc, ◌+◌, sym, refl, ap, ◌∙◌, arith}
+use Rattle.std.proofs.Common.{◌+◌, sym, ◌∙◌, arith}
 use Rattle.std.proofs.lemmas.List.{at_drop_all}
 use Rattle.assignment.specs.Rule.{rises_from}
 use Rattle.assignment.proofs.Servers.{rises_step, rises_not}

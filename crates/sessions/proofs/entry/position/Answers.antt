@@ -1,5 +1,5 @@
 -- The first entry with the key, or none.
-use Rattle.std.proofs.Common.{◌≡◌, true, false, sym, ap, ◌∙◌, arith}
+use Rattle.std.proofs.Common.{sym, arith}
 use Rattle.sessions.specs.Keys.{same_key}
 use Rattle.sessions.proofs.Lists.{hit_read, misses_more}
 use Rattle.sessions.proofs.entry.position.Goals as goal

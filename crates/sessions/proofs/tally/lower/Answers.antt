@@ -1,5 +1,5 @@
 -- The tally of the place is one lower, or gone, or there was none.
-use Rattle.std.proofs.Common.{◌≡◌, vec_items, ap, ◌∙◌, arith}
+use Rattle.std.proofs.Common.{vec_items, ap, ◌∙◌, arith}
 use Rattle.sessions.specs.Tallies.{tallied_in}
 use Rattle.sessions.proofs.Sums.{lowered_set, lowered_removed, lowered_none}
 use Rattle.sessions.proofs.tally.lower.Goals as goal

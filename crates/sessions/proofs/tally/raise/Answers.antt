@@ -1,5 +1,5 @@
 -- The tally of the place is one higher, or there is a new one.
-use Rattle.std.proofs.Common.{◌≡◌, vec_items, ap, ◌∙◌, arith}
+use Rattle.std.proofs.Common.{vec_items, ap, ◌∙◌, arith}
 use Rattle.sessions.specs.Tallies.{tallied_in}
 use Rattle.sessions.proofs.Sums.{hit_tally, raised_set, raised_push}
 use Rattle.sessions.proofs.tally.raise.Goals as goal

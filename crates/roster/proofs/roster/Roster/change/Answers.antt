@@ -1,5 +1,5 @@
 -- The rule's answer for the new list and the old assignment.
-use Rattle.std.proofs.Common.{◌≡◌, vec_items, sym, refl, ap, ◌∙◌, arith}
+use Rattle.std.proofs.Common.{vec_items, refl, ap, ◌∙◌, arith}
 use Rattle.std.proofs.lemmas.List.{with_items_is}
 use Rattle.assignment.specs.Moves.{moves_from}
 use Rattle.roster.specs.Rosters.{assignment_of}

@@ -1,5 +1,5 @@
 -- The rule's answer for buckets that have no server yet.
-use Rattle.std.proofs.Common.{◌≡◌, sym, refl, ap, ◌∙◌, arith}
+use Rattle.std.proofs.Common.{sym, refl, ◌∙◌, arith}
 use Rattle.std.proofs.lemmas.List.{with_items_is}
 use Rattle.roster.specs.Rosters.{none}
 use Rattle.roster.proofs.Answer.{renewed, renewed_whole, none_numbered, no_buckets}

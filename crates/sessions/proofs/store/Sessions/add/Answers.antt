@@ -1,5 +1,5 @@
 -- The tally of the place is one higher, and the session stands at the end of its slot; where there is no memory, all is as it was.
-use Rattle.std.proofs.Common.{◌≡◌, ◌+◌, map, set, Some, vec_items, refl, ap, arith}
+use Rattle.std.proofs.Common.{◌+◌, map, set, Some, vec_items, refl, ap, arith}
 use Rattle.std.proofs.lemmas.Result.{err_from_is_err_and}
 use Rattle.sessions.specs.Slots.{flat}
 use Rattle.sessions.specs.Model.{entries_of}

@@ -1,5 +1,5 @@
 -- The entry of the key is taken out of its slot, and the tally of its place is one lower.
-use Rattle.std.proofs.Common.{◌≡◌, ℕ, ◌-◌, true, false, map, set, is_some, Some, None, vec_items, sym, ap, ◌∙◌}
+use Rattle.std.proofs.Common.{◌≡◌, ℕ, ◌-◌, false, map, set, is_some, Some, None, vec_items, sym, ap, ◌∙◌}
 use Rattle.sessions.specs.Entries.{seen_in, without}
 use Rattle.sessions.specs.Slots.{flat}
 use Rattle.sessions.specs.Model.{entries_of}

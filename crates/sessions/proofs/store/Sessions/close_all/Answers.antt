@@ -1,5 +1,5 @@
 -- One name after the other.
-use Rattle.std.proofs.Common.{◌≡◌, fold, sym, ap, ◌∙◌, arith}
+use Rattle.std.proofs.Common.{fold, sym, ap, ◌∙◌, arith}
 use Rattle.std.proofs.lemmas.List.{take_all}
 use Rattle.std.proofs.lemmas.List.Sums.{fold_more}
 use Rattle.sessions.specs.Entries.{without}

@@ -1,9 +1,8 @@
 -- Nothing is idle as long as the oldest is not; else the names are taken out, and the oldest of the others is the new bound.
-use Rattle.std.proofs.Common.{◌≡◌, length, sym, ap, ◌∙◌}
+use Rattle.std.proofs.Common.{length, sym, ap, ◌∙◌}
 use Rattle.sessions.specs.Model.{entries_of}
 use Rattle.sessions.proofs.Idled.{all_stay, stayed, idle_holds}
 use Rattle.sessions.proofs.Stores.{long}
-use Rattle.sessions.proofs.Steps.{holds}
 use Rattle.sessions.proofs.store.Sessions.close_idle.Goals as goal
 
 pub returns-then-not-is_idle : goal.returns-then-not-is_idle

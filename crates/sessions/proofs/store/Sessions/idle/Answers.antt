@@ -1,5 +1,5 @@
 -- The names, and what is left without them.
-use Rattle.std.proofs.Common.{vec_items, sym, refl, ap, ◌∙◌}
+use Rattle.std.proofs.Common.{vec_items, refl}
 use Rattle.std.proofs.lemmas.Result.{err_from_is_err_and}
 use Rattle.sessions.specs.Model.{entries_of}
 use Rattle.sessions.proofs.Idled.{lapsing_refused, lapsed_to}

@@ -1,5 +1,5 @@
 -- Nothing is idle as long as the oldest is not; else the names are those that the walk found.
-use Rattle.std.proofs.Common.{◌≡◌, ◌++◌, map, length, vec_items, sym, ap, ◌∙◌}
+use Rattle.std.proofs.Common.{◌++◌, map, length, vec_items, sym, ap, ◌∙◌}
 use Rattle.sessions.specs.Entries.{idle_keys}
 use Rattle.sessions.specs.Slots.{flat}
 use Rattle.sessions.specs.Model.{entries_of}

@@ -1,7 +1,7 @@
 -- A session that is open is touched; one that is not is added, if there is room.
 use Rattle.std.proofs.Common.{◌≡◌, length, None, sym, refl, ap, ◌∙◌, arith}
 use Rattle.sessions.specs.Entries.{seen_in}
-use Rattle.sessions.specs.Model.{entries_of, Opening}
+use Rattle.sessions.specs.Model.{entries_of}
 use Rattle.sessions.proofs.Steps.{none_seen, len_is}
 use Rattle.sessions.proofs.Opened.{opening}
 use Rattle.sessions.proofs.store.Sessions.open.Goals as goal

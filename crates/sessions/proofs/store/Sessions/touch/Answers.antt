@@ -1,6 +1,5 @@
 -- The slot of the key has the tick noted.
 use Rattle.std.proofs.Common.{is_some, vec_items, sym, ap, ◌∙◌, arith}
-use Rattle.sessions.specs.Entries.{seen_in}
 use Rattle.sessions.specs.Model.{entries_of}
 use Rattle.sessions.proofs.Same.{slot_below}
 use Rattle.sessions.proofs.Stores.{seen_at}

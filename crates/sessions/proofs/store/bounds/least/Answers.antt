@@ -1,5 +1,5 @@
 -- One slot after the other.
-use Rattle.std.proofs.Common.{◌≡◌, ◌+◌, map, drop, vec_items, sym, ap, ◌∙◌, arith}
+use Rattle.std.proofs.Common.{◌+◌, map, drop, vec_items, sym, ap, ◌∙◌, arith}
 use Rattle.std.proofs.lemmas.List.{drop_all}
 use Rattle.sessions.specs.Ages.{least_of}
 use Rattle.sessions.specs.Slots.{flat}

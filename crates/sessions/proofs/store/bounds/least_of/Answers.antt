@@ -1,5 +1,5 @@
 -- One entry after the other.
-use Rattle.std.proofs.Common.{◌≡◌, ◌+◌, drop, sym, ap, ◌∙◌, arith}
+use Rattle.std.proofs.Common.{◌+◌, drop, sym, ap, ◌∙◌, arith}
 use Rattle.std.proofs.lemmas.List.{drop_all, at_drop_more}
 use Rattle.sessions.specs.Ages.{least_of}
 use Rattle.sessions.proofs.store.bounds.least_of.Goals as goal

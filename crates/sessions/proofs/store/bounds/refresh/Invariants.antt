@@ -1,5 +1,5 @@
 -- The bounds hold all along, and those so far are no earlier than the oldest.
-use Rattle.std.proofs.Common.{◌≡◌, ℕ, ◌<◌, ◌≤◌, map, get_or, vec_items}
+use Rattle.std.proofs.Common.{ℕ, ◌<◌, ◌≤◌, map, get_or, vec_items}
 use Rattle.sessions.specs.Kept.{Grouped, Bounded}
 use Rattle.sessions.proofs.store.bounds.refresh.Given as goal
 

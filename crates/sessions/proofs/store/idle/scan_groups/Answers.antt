@@ -1,9 +1,9 @@
 -- A group that may hold idle sessions is looked through; another has none.
-use Rattle.std.proofs.Common.{◌≡◌, ◌+◌, ◌-◌, ◌*◌, ◌++◌, map, take, drop, vec_items, sym, ap, ◌∙◌, arith}
+use Rattle.std.proofs.Common.{◌≡◌, ◌+◌, ◌-◌, ◌*◌, ◌++◌, map, vec_items, sym, ap, ◌∙◌, arith}
 use Rattle.std.proofs.lemmas.List.{append-nil, drop_all}
 use Rattle.sessions.specs.Entries.{idle_keys}
 use Rattle.sessions.specs.Slots.{flat}
-use Rattle.sessions.proofs.Groups.{group_of, group_yes, group_no}
+use Rattle.sessions.proofs.Groups.{group_yes, group_no}
 use Rattle.sessions.proofs.store.idle.scan_groups.Goals as goal
 use Rattle.sessions.proofs.store.idle.scan_groups.Goals.{then-is_idle+in_ok-scan, else-is_idle}
 

@@ -1,5 +1,5 @@
 -- One entry after the other, idle or not.
-use Rattle.std.proofs.Common.{◌≡◌, ◌+◌, ◌++◌, drop, vec_items, sym, ap, ◌∙◌, arith}
+use Rattle.std.proofs.Common.{◌+◌, ◌++◌, drop, vec_items, sym, ap, ◌∙◌, arith}
 use Rattle.std.proofs.lemmas.List.{append-nil, drop_all}
 use Rattle.sessions.specs.Entries.{idle_keys}
 use Rattle.sessions.proofs.Lapse.{names_yes, names_no}

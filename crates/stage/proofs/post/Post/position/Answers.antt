@@ -1,7 +1,7 @@
 -- The search stops at the message, or has passed all.
-use Rattle.std.proofs.Common.{◌≡◌, ◌<◌, ◌≤◌, length, sym, ap, ◌∙◌, add-one, arith}
+use Rattle.std.proofs.Common.{◌<◌, ◌≤◌, length, sym, ap, ◌∙◌, add-one, arith}
 use Rattle.std.proofs.lemmas.List.{drop_all}
-use Rattle.stage.specs.Posts.{found, without, on_way}
+use Rattle.stage.specs.Posts.{found, on_way}
 use Rattle.stage.proofs.Found.{found_here, found_past, without_here, without_past, without_all}
 use Rattle.stage.proofs.post.Post.position.Goals as goal
 

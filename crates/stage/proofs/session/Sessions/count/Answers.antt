@@ -1,5 +1,5 @@
 -- What is counted, and what is left to count, is all.
-use Rattle.std.proofs.Common.{◌≡◌, add-one, arith}
+use Rattle.std.proofs.Common.{add-one, arith}
 use Rattle.std.proofs.lemmas.List.{at_drop_all}
 use Rattle.stage.specs.Opened.{opened, count_at}
 use Rattle.stage.proofs.Counted.{counted, not_counted}

@@ -1,5 +1,5 @@
 -- The search stops at the first idle one, or has passed all.
-use Rattle.std.proofs.Common.{◌≡◌, sym, ◌∙◌, add-one, arith}
+use Rattle.std.proofs.Common.{sym, ◌∙◌, add-one}
 use Rattle.stage.proofs.Idled.{idle_yes, idle_no}
 use Rattle.stage.proofs.Passed.{here, past, ended}
 use Rattle.stage.specs.Opened.{opened, first_idle}

@@ -1,5 +1,5 @@
 -- The search stops at the session, or has passed all.
-use Rattle.std.proofs.Common.{◌≡◌, true, false, cond, sym, refl, ap, ◌∙◌, add-one, arith}
+use Rattle.std.proofs.Common.{true, cond, sym, ap, ◌∙◌, add-one}
 use Rattle.stage.proofs.Passed.{here, past, ended}
 use Rattle.stage.specs.Opened.{opened, open_at}
 use Rattle.stage.proofs.session.Sessions.is_open.Goals as goal

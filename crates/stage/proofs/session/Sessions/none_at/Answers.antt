@@ -1,5 +1,5 @@
 -- The search stops at the session, or has passed all.
-use Rattle.std.proofs.Common.{◌≡◌, true, false, cond, sym, refl, ap, ◌∙◌, add-one, arith}
+use Rattle.std.proofs.Common.{false, cond, sym, ap, ◌∙◌, add-one}
 use Rattle.stage.proofs.Passed.{here, past, ended}
 use Rattle.stage.specs.Opened.{opened, empty_at}
 use Rattle.stage.proofs.session.Sessions.none_at.Goals as goal
