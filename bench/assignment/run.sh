@@ -10,9 +10,11 @@ for crate in fault assignment; do
     cp -r "$root/crates/$crate/src" "$root/crates/$crate/specs" "$out/crates/$crate/"
     if [ -d "$root/crates/$crate/proofs" ]; then cp -r "$root/crates/$crate/proofs" "$out/crates/$crate/"; fi
 done
-printf 'fault:\nassignment: fault\nassignment_c: fault assignment\n' > "$out/crates.txt"
+printf 'fault:\nassignment: fault\nassignment_c staticlib: fault assignment\n' > "$out/crates.txt"
 cat > "$out/crates/assignment_c/src/lib.rt" <<'RT'
 // For C to link.
+#![tactic(auto)]
+
 use assignment::balance::rebalance;
 
 #[unsafe(no_mangle)]
@@ -24,6 +26,7 @@ pub extern "C" fn rebalance_c(assignment: &mut [u16], servers: &[u8]) -> u8 {
 }
 RT
 cd "$out"
-rt staticlib assignment_c
-cc -O2 -o main "$root/bench/assignment/main.c" target/staticlib/libassignment_c.a
+git init -q .
+(cd crates/assignment_c && rt lib)
+cc -O2 -o main "$root/bench/assignment/main.c" crates/assignment_c/out/libassignment_c.a
 ./main

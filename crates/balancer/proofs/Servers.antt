@@ -1,8 +1,8 @@
 -- The first links, server by server. Assumes nothing.
-use Rattle.std.proofs.Common.{◌≡◌, ℕ, zero, suc, ◌+◌, ◌<◌, ◌≤◌, Bool, true, false, cond, ◌&&◌, ltb, List, [], ◌∷◌, ◌++◌, map, length, get_or, take, sym, refl, ap, ◌∙◌, inl, inr, arith}
+use Rattle.std.proofs.Common.{◌≡◌, ℕ, zero, suc, ◌+◌, ◌<◌, ◌≤◌, true, false, List, [], ◌∷◌, ◌++◌, length, get_or, take, ap, ◌∙◌, inl, inr, arith}
 use Rattle.std.proofs.lemmas.List.{take_more, map_push}
 use Rattle.std.proofs.lemmas.Bool.{lt-ltb, le-ltb, cases_lt}
-use Rattle.balancer.specs.Rules.{is_server, are_servers, first_link, first_links}
+use Rattle.balancer.specs.Rules.{are_servers, first_link, first_links}
 
 servers_push : (ss : List ℕ) (s : ℕ) → are_servers ss ≡ true → s < 256 → are_servers (ss ++ s ∷ []) ≡ true
 servers_push [] s h lt = rw (lt-ltb s 256 lt)

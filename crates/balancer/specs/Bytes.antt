@@ -1,5 +1,5 @@
 -- What a balancer does with bytes, whoever hands them over. Assumes nothing.
-use Rattle.std.specs.Prelude.{ℕ, cond, List, [], ◌∷◌, is_ok, Ok, Err, Result}
+use Rattle.std.specs.Prelude.{ℕ, List, [], ◌∷◌, Ok, Err, Result}
 use Rattle.fault.specs.declared.Fault.{Fault}
 use Rattle.fault.specs.declared.Fault.TheVariants.{Malformed}
 use Rattle.chain.specs.declared.way.Link.{Link}

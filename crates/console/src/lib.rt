@@ -13,7 +13,7 @@ use std::io::Write;
 use std::{env, fmt};
 
 // The release, and the kit that proves and builds it.
-pub const VERSION: &str = "0.1.0 (rattle-kit-8b logic 7f726aa041520687)";
+pub const VERSION: &str = "0.1.0 (rattle-kit-13f logic dac8208d650f15bf)";
 
 // Where the settings do not say how many buckets there are.
 const BUCKETS: u32 = 4096;

@@ -1,9 +1,9 @@
 -- What the controller is told and hears, by the message. Assumes nothing.
-use Rattle.std.proofs.Common.{◌≡◌, ℕ, ◌<◌, ◌≤◌, Bool, true, false, cond, List, [], ◌∷◌, ◌++◌, length, Ok, Err, Option, Result, sym, refl, ap, ◌∙◌, subst, arith}
+use Rattle.std.proofs.Common.{◌≡◌, ℕ, ◌<◌, ◌≤◌, cond, List, [], ◌++◌, length, Ok, Err, Option, Result, sym, refl, subst}
 use Rattle.std.proofs.lemmas.List.{append-nil}
 use Rattle.std.proofs.lemmas.Bool.{lt-ltb, le-ltb}
 use Rattle.fault.specs.declared.Error.{Error}
-use Rattle.fault.specs.declared.Error.TheVariants.{Of, Memory}
+use Rattle.fault.specs.declared.Error.TheVariants.{Of}
 use Rattle.fault.specs.declared.Fault.TheVariants.{Malformed, NoSuch}
 use Rattle.chain.specs.declared.way.Link.{Link}
 use Rattle.wire.specs.declared.message.Control.{Control}

@@ -1,5 +1,5 @@
 -- One bucket of the controller changes, and nothing else of it. Assumes nothing.
-use Rattle.std.proofs.Common.{◌≡◌, ℕ, ◌+◌, ◌<◌, Bool, true, false, cond, List, [], ◌∷◌, ◌++◌, map, length, get_or, set, sym, refl, ap, ◌∙◌, subst, append_assoc, arith}
+use Rattle.std.proofs.Common.{◌≡◌, ℕ, ◌+◌, ◌<◌, List, ◌++◌, map, length, get_or, set, sym, ap, ◌∙◌, subst}
 use Rattle.std.proofs.lemmas.List.{map-set, get_or-map}
 use Rattle.machine.specs.declared.sent.Sent.{Sent}
 use Rattle.controller_bucket.specs.declared.kept.Bucket.{Bucket}

@@ -1,8 +1,7 @@
 -- Every step leaves each bucket with a handover in progress, at its server, or put off and reported. Assumes nothing.
-use Rattle.std.proofs.Common.{◌≡◌, ℕ, zero, suc, ◌+◌, ◌<◌, ◌≤◌, Bool, true, false, cond, ◌&&◌, eqb, ltb, ◌⊎◌, List, [], ◌∷◌, ◌++◌, map, length, get_or, set, Some, None, Ok, Err, Option, Result, sym, refl, ap, ◌∙◌, subst, inl, inr, arith}
+use Rattle.std.proofs.Common.{◌≡◌, ℕ, zero, suc, ◌<◌, Bool, true, false, cond, eqb, ltb, List, [], ◌∷◌, map, length, get_or, Some, None, Ok, Err, Option, Result, sym, refl, ap, ◌∙◌, inl, inr, arith}
 use Rattle.std.proofs.lemmas.List.{length-map, length-set, get_or-set_same, get_or-set_other, get_or-map}
 use Rattle.std.proofs.lemmas.Bool.{cases_Bool, cases_eq, eqb-true, eqb-false, ltb-true, cond_both}
-use Rattle.std.proofs.lemmas.Bool.Decides.{nat_tests}
 use Rattle.fault.specs.declared.Fault.{Fault}
 use Rattle.fault.specs.declared.Fault.TheVariants.{NoSuch, NoServer}
 use Rattle.chain.specs.declared.way.Link.{Link}
@@ -21,8 +20,8 @@ use Rattle.assignment.proofs.Changes.{kept_length}
 use Rattle.roster.specs.Listing.{with_server, without_server}
 use Rattle.controller_bucket.specs.Rules as bucket
 use Rattle.controller_bucket.specs.Rules.{Charge, charge_first}
-use Rattle.controller.specs.Rules.{Ruling, charge_at, assigned_at, all_balancers, is_bucket, bucket_in, ruling_first, rules, parts, forgotten_as, told_of, heard_of, door_heard, begun_from, reassigned, changes}
-use Rattle.controller.specs.Settled.{SettledIn, SettledAt, Settled, Leaves, FirstSettled, ToldSettled, HeardSettled, AddedSettled, RemovedSettled, TickedSettled, SettledSteady}
+use Rattle.controller.specs.Rules.{Ruling, charge_at, assigned_at, all_balancers, is_bucket, bucket_in, rules, parts, forgotten_as, told_of, heard_of, door_heard, begun_from, reassigned, changes}
+use Rattle.controller.specs.Settled.{SettledAt, Settled, Leaves, FirstSettled, ToldSettled, HeardSettled, AddedSettled, RemovedSettled, TickedSettled, SettledSteady}
 
 -- ONE BUCKET
 

@@ -1,5 +1,5 @@
 -- What the controller keeps of one bucket, and how its handovers go on. The rules of the chain are those of `chain`. Assumes nothing.
-use Rattle.std.specs.Prelude.{ℕ, ◌-◌, Bool, true, false, cond, ◌&&◌, List, [], ◌∷◌, ◌++◌, map, length, Some, None, Ok, Err, Option, Result, ◌==◌, slice_index_or}
+use Rattle.std.specs.Prelude.{ℕ, ◌-◌, Bool, true, false, cond, List, [], ◌∷◌, ◌++◌, map, length, Some, None, Ok, Err, Option, Result, ◌==◌, slice_index_or}
 use Rattle.fault.specs.declared.Fault.{Fault}
 use Rattle.chain.specs.declared.way.Link.{Link}
 use Rattle.chain.specs.declared.handover.Handover.{Handover}

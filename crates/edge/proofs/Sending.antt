@@ -1,5 +1,5 @@
 -- One message after the other, or none. Assumes nothing.
-use Rattle.std.proofs.Common.{◌≡◌, ℕ, ◌+◌, ◌<◌, List, [], ◌∷◌, ◌++◌, map, length, get_or, take, Err, sym, refl, ap, ◌∙◌, append_assoc}
+use Rattle.std.proofs.Common.{◌≡◌, ℕ, ◌+◌, ◌<◌, List, [], ◌∷◌, ◌++◌, map, length, get_or, take, Err, sym, ap, ◌∙◌, append_assoc}
 use mathlib.Core.List.{map-append}
 use Rattle.std.proofs.lemmas.List.{take_more, take_at}
 use Rattle.fault.specs.declared.Error.{Error}

@@ -1,5 +1,5 @@
 -- What a machine sends, as bytes. Assumes nothing.
-use Rattle.std.specs.Prelude.{◌≡◌, ℕ, ◌<◌, ◌≤◌, List, [], ◌∷◌, ◌++◌, map, length, Ok, Err, vec_items, Result}
+use Rattle.std.specs.Prelude.{◌≡◌, ℕ, ◌≤◌, List, [], ◌∷◌, ◌++◌, map, length, Ok, Err, vec_items, Result}
 use Rattle.fault.specs.declared.Fault.TheVariants.{Malformed}
 use Rattle.fault.specs.declared.Error.{Error}
 use Rattle.fault.specs.declared.Error.TheVariants.{Of, Memory}

@@ -1,5 +1,5 @@
 -- What bytes are to the machine that they come to. Assumes nothing.
-use Rattle.std.specs.Prelude.{ℕ, Bool, cond, List, Ok, Err, Result}
+use Rattle.std.specs.Prelude.{ℕ, cond, List, Ok, Err, Result}
 use Rattle.fault.specs.declared.Fault.TheVariants.{Malformed}
 use Rattle.flow.specs.declared.key.FlowKey.{FlowKey}
 use Rattle.wire.specs.declared.message.Control.{Control}

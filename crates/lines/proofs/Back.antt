@@ -1,14 +1,13 @@
 -- What was written is read back. Assumes nothing.
-use Rattle.std.proofs.Common.{◌≡◌, ℕ, zero, suc, ◌+◌, ◌-◌, ◌*◌, ◌/◌, ◌%◌, ◌<◌, ◌≤◌, Bool, true, false, cond, eqb, ltb, leb, ◌⊎◌, List, [], ◌∷◌, ◌++◌, length, get_or, take, drop, Some, None, Ok, Err, Option, sym, refl, ap, ◌∙◌, subst, inl, inr, append_assoc, append-nil, arith}
+use Rattle.std.proofs.Common.{◌≡◌, ℕ, suc, ◌+◌, ◌*◌, ◌/◌, ◌%◌, ◌<◌, ◌≤◌, false, cond, eqb, ltb, List, [], ◌∷◌, ◌++◌, length, Some, None, Ok, Err, sym, refl, ap, ◌∙◌, inl, inr, append_assoc, append-nil, arith}
 use Rattle.std.proofs.lemmas.List.{take_at, drop_at}
 use Rattle.std.proofs.lemmas.Bool.{cases_lt, lt-ltb, le-ltb}
 use Rattle.fault.specs.declared.Fault.TheVariants.{NoSuch}
 use Rattle.wire.specs.Laws.{Bytes}
-use Rattle.machine.specs.declared.name.Machine.{Machine}
 use Rattle.machine.specs.declared.name.Machine.TheVariants.{Client, Operator, Balancer, Server, Controller}
 use Rattle.words.specs.Words.{word_length, word_of, rest_of, with_digit as withDecimal, onward as onwardDecimal, digits_from, numeral}
-use Rattle.lines.specs.Lines.{hex_digit, Part, digit_to, next_digit, onward, bytes_from, unread, bytes_in, beside, bytes_of, balancer_as, server_as, numbered, hex_of, hex_text, digit, decimal, line_in, line_text}
-use Rattle.lines.specs.Laws.{Real, ReadBack}
+use Rattle.lines.specs.Lines.{hex_digit, digit_to, onward, bytes_from, beside, bytes_of, balancer_as, server_as, numbered, hex_of, hex_text, digit, decimal}
+use Rattle.lines.specs.Laws.{ReadBack}
 
 -- BYTES
 

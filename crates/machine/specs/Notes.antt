@@ -1,5 +1,5 @@
 -- What a note says on the wire. Assumes nothing.
-use Rattle.std.specs.Prelude.{ℕ, ◌/◌, ◌%◌, List, [], ◌∷◌}
+use Rattle.std.specs.Prelude.{◌/◌, ◌%◌, [], ◌∷◌}
 use Rattle.fault.specs.declared.Fault.TheVariants.{ChainFull}
 use Rattle.fault.specs.declared.Refusal.TheVariants.{For}
 use Rattle.wire.specs.Meant.{Meant, Said, Answered, Back}

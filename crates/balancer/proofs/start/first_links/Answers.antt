@@ -1,5 +1,5 @@
 -- One more bucket's place 1.
-use Rattle.std.proofs.Common.{◌≡◌, ◌<◌, length, ap, ◌∙◌, arith, rules}
+use Rattle.std.proofs.Common.{◌<◌, length, ap, ◌∙◌, arith, rules}
 use Rattle.std.proofs.lemmas.List.{take_all}
 use Rattle.balancer.specs.Rules.{first_links}
 use Rattle.balancer.proofs.Servers.{servers_at, links_more}

@@ -1,6 +1,5 @@
 -- The word and its number.
 use Rattle.std.proofs.Common.{vec_items}
-use Rattle.lines.specs.Lines.{decimal}
 use Rattle.lines.proofs.Texts.{both}
 use Rattle.lines.proofs.write.push_name.Goals as goal
 

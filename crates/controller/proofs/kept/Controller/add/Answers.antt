@@ -1,5 +1,5 @@
 -- By the roster's answer.
-use Rattle.std.proofs.Common.{◌≡◌, map, length, sym, refl, ap, ◌∙◌, arith}
+use Rattle.std.proofs.Common.{map, length, sym, refl, ap, ◌∙◌, arith}
 use Rattle.std.proofs.lemmas.List.{with_items_is}
 use Rattle.machine.specs.Outboxes.{sent_of}
 use Rattle.roster.specs.Rosters.{assignment_of}

@@ -1,5 +1,5 @@
 -- There or not.
-use Rattle.std.proofs.Common.{◌≡◌, vec_items, arith}
+use Rattle.std.proofs.Common.{vec_items, arith}
 use Rattle.std.proofs.lemmas.List.{length-map}
 use Rattle.controller_bucket.specs.Rules.{charge_first}
 use Rattle.controller_bucket.specs.Kept.{charge}

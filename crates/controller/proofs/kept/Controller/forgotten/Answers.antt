@@ -1,5 +1,5 @@
 -- Not answered, or answered and obeyed.
-use Rattle.std.proofs.Common.{◌≡◌, ◌<◌, [], ◌∷◌, ◌++◌, length, vec_items, sym, refl, ap, ◌∙◌, arith}
+use Rattle.std.proofs.Common.{◌<◌, [], ◌∷◌, ◌++◌, length, vec_items, refl, ap, ◌∙◌, arith}
 use Rattle.std.proofs.lemmas.List.{with_items_is}
 use Rattle.machine.specs.declared.sent.Note.TheVariants.{Answer}
 use Rattle.machine.specs.Outboxes.{sent_of}

@@ -1,5 +1,5 @@
 -- One bucket changes.
-use Rattle.std.proofs.Common.{◌≡◌, vec_items, ap, arith}
+use Rattle.std.proofs.Common.{vec_items, ap, arith}
 use Rattle.controller_bucket.specs.Rules as bucket
 use Rattle.controller_bucket.specs.Rules.{charge_first}
 use Rattle.controller.specs.Kept.{ruling}

@@ -1,5 +1,5 @@
 -- One server more.
-use Rattle.std.proofs.Common.{◌≡◌, vec_items, sym, refl, ap, ◌∙◌}
+use Rattle.std.proofs.Common.{vec_items, ap, ◌∙◌}
 use Rattle.controller.specs.Rules.{up_from}
 use Rattle.controller.specs.Kept.{ruling}
 use Rattle.controller.specs.Status.{go_of}

@@ -1,5 +1,5 @@
 -- As many buckets as are assigned.
-use Rattle.std.proofs.Common.{◌≡◌, map, length, vec_items, sym, refl, ap, ◌∙◌, arith}
+use Rattle.std.proofs.Common.{length, vec_items, ap, arith}
 use Rattle.std.proofs.lemmas.List.{length-map}
 use Rattle.controller_bucket.specs.Rules.{charge_first}
 use Rattle.controller_bucket.specs.Kept.{charge}

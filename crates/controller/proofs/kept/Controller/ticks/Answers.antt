@@ -1,5 +1,5 @@
 -- All buckets are later.
-use Rattle.std.proofs.Common.{◌≡◌, map, sym, refl, ap, ◌∙◌, arith}
+use Rattle.std.proofs.Common.{map, ap, ◌∙◌, arith}
 use Rattle.std.proofs.lemmas.List.{with_items_is}
 use Rattle.machine.specs.Outboxes.{sent_of}
 use Rattle.controller_bucket.specs.Rules as bucket

@@ -1,5 +1,5 @@
 -- By the message.
-use Rattle.std.proofs.Common.{◌≡◌, vec_items, ap, arith}
+use Rattle.std.proofs.Common.{vec_items, ap, arith}
 use Rattle.std.proofs.lemmas.List.{length-map}
 use Rattle.machine.specs.Outboxes.{sent_of}
 use Rattle.controller_bucket.specs.Kept.{charge}

@@ -1,5 +1,5 @@
 -- One balancer more.
-use Rattle.std.proofs.Common.{◌≡◌, [], ◌∷◌, ◌++◌, sym, refl, ap, ◌∙◌, add-one, arith}
+use Rattle.std.proofs.Common.{arith}
 use Rattle.controller.specs.Rules.{up_from}
 use Rattle.controller.proofs.Walks.{ups_more}
 use Rattle.controller.proofs.kept.answer.all_balancers.Goals as goal

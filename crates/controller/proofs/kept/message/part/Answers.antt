@@ -1,5 +1,5 @@
 -- One link more.
-use Rattle.std.proofs.Common.{◌≡◌, ◌+◌, length, drop, sym, refl, ap, ◌∙◌, arith, length-set}
+use Rattle.std.proofs.Common.{◌+◌, length, drop, sym, ap, ◌∙◌, arith, length-set}
 use Rattle.controller.specs.Rules.{parted_at}
 use Rattle.controller.proofs.Walks.{part_yes, part_no, part_end}
 use Rattle.controller.proofs.kept.message.part.Goals as goal

@@ -1,5 +1,5 @@
 -- One bucket more.
-use Rattle.std.proofs.Common.{◌≡◌, sym, refl, ap, ◌∙◌, arith, length-set}
+use Rattle.std.proofs.Common.{sym, ◌∙◌, arith, length-set}
 use Rattle.machine.specs.Outboxes.{sent_of}
 use Rattle.controller.proofs.Walks.{begun_more, begun_said, begun_end, begun_all_said}
 use Rattle.controller.proofs.kept.order.begin_all.Goals as goal

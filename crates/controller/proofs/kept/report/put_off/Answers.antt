@@ -1,5 +1,5 @@
 -- One bucket more.
-use Rattle.std.proofs.Common.{◌≡◌, ◌+◌, ◌++◌, map, drop, vec_items, sym, refl, ap, ◌∙◌, arith}
+use Rattle.std.proofs.Common.{◌+◌, ◌++◌, map, drop, vec_items, sym, ap, ◌∙◌, arith}
 use Rattle.controller_bucket.specs.Kept.{charge}
 use Rattle.controller.specs.Status.{waiting_from}
 use Rattle.controller.proofs.Seen.{waiting_yes, waiting_no, waiting_end}

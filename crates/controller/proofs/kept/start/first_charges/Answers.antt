@@ -1,5 +1,5 @@
 -- One bucket more.
-use Rattle.std.proofs.Common.{◌≡◌, map, vec_items, sym, refl, ap, ◌∙◌, arith}
+use Rattle.std.proofs.Common.{map, vec_items, ap, ◌∙◌, arith}
 use Rattle.std.proofs.lemmas.List.{take_all}
 use Rattle.controller_bucket.specs.Rules.{charge_first}
 use Rattle.controller_bucket.specs.Kept.{charge}

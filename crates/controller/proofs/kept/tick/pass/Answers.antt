@@ -1,5 +1,5 @@
 -- One bucket more.
-use Rattle.std.proofs.Common.{◌≡◌, sym, refl, ap, ◌∙◌, arith, length-set}
+use Rattle.std.proofs.Common.{sym, ◌∙◌, arith, length-set}
 use Rattle.controller.proofs.Walks.{pass_more, pass_end}
 use Rattle.controller.proofs.kept.tick.pass.Goals as goal
 

@@ -1,6 +1,5 @@
 -- What the handover waits for, and the balancers.
-use Rattle.std.proofs.Common.{◌≡◌, sym, refl, ap, ◌∙◌, subst}
-use Rattle.std.proofs.lemmas.List.{append-nil}
+use Rattle.std.proofs.Common.{ap, ◌∙◌}
 use Rattle.machine.specs.Outboxes.{sent_of}
 use Rattle.controller_bucket.specs.Kept.{charge}
 use Rattle.controller_bucket.proofs.Walk.{due_said, said_yes, said_no}

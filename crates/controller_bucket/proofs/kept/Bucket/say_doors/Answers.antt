@@ -1,6 +1,6 @@
 -- One balancer after the other.
-use Rattle.std.proofs.Common.{◌≡◌, ◌+◌, ◌++◌, map, drop, sym, refl, ap, ◌∙◌, arith}
-use Rattle.machine.specs.Outboxes.{sent_of, room_of}
+use Rattle.std.proofs.Common.{◌+◌, ◌++◌, map, drop, sym, refl, ap, ◌∙◌, arith}
+use Rattle.machine.specs.Outboxes.{sent_of}
 use Rattle.controller_bucket.specs.Rules.{door_to}
 use Rattle.controller_bucket.proofs.Walk.{said_more, said_all, doors_are}
 use Rattle.controller_bucket.proofs.kept.Bucket.say_doors.Goals as goal

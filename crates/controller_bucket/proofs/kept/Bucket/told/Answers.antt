@@ -1,5 +1,5 @@
 -- The handover is done.
-use Rattle.std.proofs.Common.{◌≡◌, vec_items}
+use Rattle.std.proofs.Common.{vec_items}
 use Rattle.chain.specs.Kept.{control}
 use Rattle.machine.specs.Outboxes.{sent_of}
 use Rattle.controller_bucket.specs.Kept.{charge}

@@ -1,5 +1,5 @@
 -- The first that is the balancer's is taken out.
-use Rattle.std.proofs.Common.{◌≡◌, vec_items, sym, refl, ap, ◌∙◌, subst, arith}
+use Rattle.std.proofs.Common.{vec_items, sym, ◌∙◌, arith}
 use Rattle.controller_bucket.proofs.Walk.{strike_past, strike_here, strike_none}
 use Rattle.controller_bucket.proofs.kept.ops.strike.Goals as goal
 

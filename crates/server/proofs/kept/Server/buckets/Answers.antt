@@ -1,5 +1,5 @@
 -- One holding for each bucket.
-use Rattle.std.proofs.Common.{vec_items, sym, arith}
+use Rattle.std.proofs.Common.{vec_items, arith}
 use Rattle.std.proofs.lemmas.List.{length-map}
 use Rattle.server_bucket.specs.Kept.{holding}
 use Rattle.server.proofs.kept.Server.buckets.Goals as goal

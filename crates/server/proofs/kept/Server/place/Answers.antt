@@ -1,6 +1,5 @@
 -- What was read is what the rule reads.
 use Rattle.std.proofs.Common.{vec_items, sym, arith}
-use Rattle.places.specs.Rules.{find}
 use Rattle.server.proofs.Buckets.{held_at}
 use Rattle.server.proofs.kept.Server.place.Goals as goal
 

@@ -1,5 +1,5 @@
 -- The places that are read are those that the rule reads.
-use Rattle.std.proofs.Common.{◌≡◌, vec_items, sym, ap, ◌∙◌, arith}
+use Rattle.std.proofs.Common.{vec_items, sym, ap, arith}
 use Rattle.server.proofs.Buckets.{held_at, none_at}
 use Rattle.server.proofs.kept.Server.places.Goals as goal
 
