@@ -1,7 +1,7 @@
 -- Assignments of buckets to servers: even ones, and at how many buckets two differ. Assumes nothing.
 -- An assignment is the list of the servers of the buckets 0, 1, 2 ..; 65535 stands for none yet. Servers are a list of numbers.
 use Rattle.std.specs.Prelude.{◌≡◌, ℕ, suc, ◌+◌, ◌<◌, ◌≤◌, cond, List, [], ◌∷◌, length, ◌==◌, slice_index}
-use Rattle.std.specs.List.{AllByRecursion as All}
+use Rattle.std.specs.List.{AllByRecursion}
 
 -- how many buckets s has
 abbrev pub count : ℕ → List ℕ → ℕ
@@ -18,7 +18,7 @@ Listed servers s = place servers s < length servers
 
 -- every bucket has a listed server, and no listed server has two more than another
 pub record Even (servers ys : List ℕ) : Type 0 where
-  pub served : All (Listed servers) ys
+  pub served : AllByRecursion (Listed servers) ys
   pub level : (s t : ℕ) → Listed servers s → Listed servers t → count s ys ≤ count t ys + 1
 
 -- n buckets, each with the number of a server

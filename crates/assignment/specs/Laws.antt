@@ -1,17 +1,17 @@
 -- What holds of assignments whatever the quotas, and the worked cases. Assumes nothing.
 use Rattle.std.specs.Prelude.{◌≡◌, ℕ, ◌+◌, ◌<◌, ◌≤◌, min, true, List, [], ◌∷◌, map, length, replicate}
-use Rattle.std.specs.List.{AllByRecursion as All}
+use Rattle.std.specs.List.{AllByRecursion}
 use Rattle.assignment.specs.Even.{count, Listed, moved}
 use Rattle.assignment.specs.Rule.{rises, sum_over, quotas, shared_by, rebalanced}
 
 -- any assignment to the servers changes at least as many buckets as lie beyond the smaller of old and new count, summed over the servers
 abbrev pub LeastMoves : Type 0
-LeastMoves = (servers xs zs : List ℕ) → rises servers ≡ true → length zs ≡ length xs → All (Listed servers) zs
+LeastMoves = (servers xs zs : List ℕ) → rises servers ≡ true → length zs ≡ length xs → AllByRecursion (Listed servers) zs
     → length xs ≤ moved xs zs + sum_over (λ s. min (count s xs) (count s zs)) servers
 
 -- for any quotas f: keeping the lowest buckets changes no more than that, and each server has its quota if these come to the number of buckets
 abbrev pub AnyQuotas : Type 0
-AnyQuotas = (f : ℕ → ℕ) (servers xs : List ℕ) → rises servers ≡ true → All (λ s. s < 256) servers
+AnyQuotas = (f : ℕ → ℕ) (servers xs : List ℕ) → rises servers ≡ true → AllByRecursion (λ s. s < 256) servers
     → (moved xs (shared_by (map f servers) servers xs) + sum_over (λ s. min (count s xs) (f s)) servers ≤ length xs)
     × (sum_over f servers ≡ length xs → (s : ℕ) → Listed servers s → count s (shared_by (map f servers) servers xs) ≡ f s)
 
@@ -48,4 +48,4 @@ Holds c =
     × (moved c.before (rebalanced c.servers c.before) ≡ c.changed)
 
 abbrev pub WorkedCases : Type 0
-WorkedCases = All Holds worked
+WorkedCases = AllByRecursion Holds worked

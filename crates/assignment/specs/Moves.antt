@@ -1,7 +1,7 @@
 -- The buckets that change hands between two assignments. Assumes nothing.
 use Rattle.std.specs.Prelude.{◌≡◌, ℕ, suc, ◌<◌, Bool, true, false, cond, ◌&&◌, List, [], ◌∷◌, ◌++◌, length, Some, None, Ok, Err, vec_items, Option, Result, Vec, ◌==◌, nat_le, nat_lt}
 use Rattle.std.specs.Option.{option_to_list}
-use Rattle.std.specs.List.{AllByRecursion as All}
+use Rattle.std.specs.List.{AllByRecursion}
 use Rattle.std.specs.declared.alloc.Global.{Global}
 use Rattle.fault.specs.declared.Error.{Error}
 use Rattle.fault.specs.declared.Error.TheVariants.{Of, Memory}
@@ -38,4 +38,4 @@ Found xs ys (Err Memory) = comparable xs ys ≡ true
 
 -- where every bucket has a server, those that change hands are as many as the assignments differ at
 abbrev pub CountedMoves : Type 0
-CountedMoves = (xs ys : List ℕ) → All (λ y. y < 256) ys → length (moves_from 0 xs ys) ≡ moved xs ys
+CountedMoves = (xs ys : List ℕ) → AllByRecursion (λ y. y < 256) ys → length (moves_from 0 xs ys) ≡ moved xs ys

@@ -1,5 +1,5 @@
 -- What the controller does with bytes, whoever hands them over. Its rules are those of `controller`, the bytes' are those of `edge`. Assumes nothing.
-use Rattle.std.specs.Prelude.{◌≡◌, ℕ, ◌+◌, ◌^◌, cond, ◌⊎◌, List, [], ◌∷◌, ◌++◌, map, length, Ok, Err, Result, nat_lt}
+use Rattle.std.specs.Prelude.{◌≡◌, ℕ, ◌+◌, ◌^◌, cond, ◌⊎◌, List, ◌++◌, map, length, Ok, Err, Result, nat_lt}
 use Rattle.fault.specs.declared.Fault.{Fault}
 use Rattle.fault.specs.declared.Fault.TheVariants.{Malformed, NoSuch}
 use Rattle.fault.specs.declared.Error.{Error}

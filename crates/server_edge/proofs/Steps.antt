@@ -1,5 +1,5 @@
 -- What a stopped step leaves, and what a packet that goes on is. Assumes nothing.
-use Rattle.std.proofs.Common.{◌≡◌, ℕ, ◌+◌, ◌^◌, ◌<◌, Bool, true, false, cond, ltb, List, [], ◌∷◌, ◌++◌, map, length, take, Some, None, Ok, Err, Option, Result, sym, refl, ap, ◌∙◌, subst, inl, inr, append_assoc, append-nil, arith}
+use Rattle.std.proofs.Common.{◌≡◌, ℕ, ◌+◌, ◌^◌, ◌<◌, Bool, true, false, cond, ltb, List, [], ◌∷◌, ◌++◌, map, length, take, Some, None, Ok, Err, Result, sym, refl, ap, ◌∙◌, subst, inl, inr, append_assoc, append-nil, arith}
 use Rattle.std.proofs.lemmas.List.{take_at}
 use Rattle.std.proofs.lemmas.Bool.{lt-ltb}
 use Rattle.fault.specs.declared.Fault.{Fault}
@@ -27,7 +27,7 @@ use Rattle.machine.specs.Steps.{Did}
 use Rattle.edge.specs.declared.sort.Role.TheVariants as role
 use Rattle.edge.specs.Posts.{Mail, mail, Sends}
 use Rattle.edge.specs.Table.{refusal, takes, kind_in, mail_in, Stops}
-use Rattle.edge.specs.Sorts.{Sort, Carries, Refuses, read_as, sort}
+use Rattle.edge.specs.Sorts.{Carries, Refuses, read_as, sort}
 use Rattle.server.specs.Kept.{Obeys}
 use Rattle.server.specs.Rules as rules
 use Rattle.server.specs.Rules.{Keeping, Handled, ticked}

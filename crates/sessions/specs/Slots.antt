@@ -1,6 +1,6 @@
 -- Entries filed in slots: the entry of a key stands in the slot of its hash, once. Assumes nothing.
 use Rattle.std.specs.Prelude.{ℕ, suc, ◌≤◌, Bool, true, not, ◌&&◌, List, [], ◌∷◌, ◌++◌, is_some, ◌==◌, nat_le}
-use Rattle.std.specs.List.{AllByRecursion as All}
+use Rattle.std.specs.List.{AllByRecursion}
 use Rattle.sessions.specs.declared.entry.Entry.{Entry}
 use Rattle.sessions.specs.Keys.{slot_of}
 use Rattle.sessions.specs.Entries.{seen_in}
@@ -23,7 +23,7 @@ tidy n (s ∷ ss) = filed n s && tidy (suc n) ss
 -- the entries stand in the order of their slots
 abbrev pub Ascending : List Entry → Type 0
 Ascending [] = Unit {0}
-Ascending (e ∷ es) = All (λ x. slot_of e.key ≤ slot_of x.key) es × Ascending es
+Ascending (e ∷ es) = AllByRecursion (λ x. slot_of e.key ≤ slot_of x.key) es × Ascending es
 
 -- no session had its last packet before the tick t
 abbrev pub fresh : ℕ → List Entry → Bool

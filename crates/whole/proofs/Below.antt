@@ -1,5 +1,5 @@
 -- A place is told to stand behind one with a lower number. Assumes nothing.
-use Rattle.std.proofs.Common.{◌≡◌, ℕ, ◌<◌, T, ◌⊎◌, List, [], ◌∷◌, Some, None, Ok, Err, Option, Result, refl, subst, inl, inr, arith}
+use Rattle.std.proofs.Common.{ℕ, T, List, ◌∷◌, Some, None, Ok, Err, Option, Result, inl, inr, arith}
 use mathlib.Core.List.Memᴰ
 use mathlib.Core.List.{Memᴰ}
 use Rattle.fault.specs.declared.Fault.{Fault}
@@ -12,9 +12,9 @@ use Rattle.chain.specs.declared.place.Outcome.TheVariants.{Delivered, Opened, Fo
 use Rattle.chain.specs.Places as place
 use Rattle.chain.specs.Places.{handle, below}
 use Rattle.chain.specs.Ways.{heard_link}
-use Rattle.chain.specs.Controllers.{hears_stood, hears_told, hears_forgotten}
+use Rattle.chain.specs.Controllers.{hears_stood}
 use Rattle.bucket.specs.Sessions.{is_empty}
-use Rattle.bucket.specs.Model.{Traced, Message, Carry, ToStand, Stood, BehindYou, Told, ToBalancer, Gone, State, newest, link_to, place_at, puts, controls, learns, answers, becomes, introduced, tells_of_it, retires, done, outcome, Event, Step, ignores, begins, stands, introduces, follows, confirms, announces, hints, hears, comes, arrives, closes, forgets, frees, shortens, Reach, begin, more}
+use Rattle.bucket.specs.Model.{Traced, Message, Carry, ToStand, Stood, BehindYou, Told, ToBalancer, Gone, State, link_to, place_at, puts, controls, learns, answers, becomes, introduced, tells_of_it, retires, done, outcome, Event, Step, ignores, begins, stands, introduces, follows, confirms, announces, hints, hears, comes, arrives, closes, forgets, frees, shortens, Reach, begin, more}
 
 abbrev Low : Message → Type 0
 Low (Carry p) = Unit {0}

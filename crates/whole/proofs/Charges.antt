@@ -1,13 +1,11 @@
 -- What the controller does for one bucket, as steps of the bucket. Assumes nothing.
-use Rattle.std.proofs.Common.{◌≡◌, ℕ, zero, suc, ◌+◌, ◌<◌, ◌≤◌, Bool, true, false, cond, ◌&&◌, T, eqb, ltb, ◌⊎◌, List, [], ◌∷◌, ◌++◌, map, Some, None, Ok, Err, Option, Result, sym, refl, ap, ◌∙◌, subst, inl, inr, arith}
+use Rattle.std.proofs.Common.{◌≡◌, ℕ, ◌<◌, ◌≤◌, Bool, true, cond, ◌&&◌, eqb, ltb, List, [], ◌∷◌, ◌++◌, map, Some, None, Option, sym, refl, ap, ◌∙◌, subst, arith}
 use mathlib.Core.List.{Memᴰ}
-use Rattle.fault.specs.declared.Fault.{Fault}
 use Rattle.chain.specs.declared.way.Link.{Link}
 use Rattle.chain.specs.declared.handover.Handover.{Handover}
 use Rattle.chain.specs.declared.handover.Handover.TheVariants.{Idle, AwaitStood, AwaitTold}
 use Rattle.chain.specs.Places.{handle}
 use Rattle.chain.specs.Ways.{same_link}
-use Rattle.chain.specs.Controllers as chains
 use Rattle.chain.specs.Controllers.{Control, newest_of, began, next_at, has_room, begins_in, stood_in, told_in, hears_stood, hears_told, hears_forgotten, above}
 use Rattle.bucket.specs.Model as one
 use Rattle.machine.specs.declared.sent.Sent.{Sent}
@@ -15,7 +13,7 @@ use Rattle.machine.specs.Again.{is_due}
 use Rattle.controller_bucket.specs.Rules as bucket
 use Rattle.controller_bucket.specs.Rules.{Charge, awaited_of, awaited, door_to, doors, with_control, put_off, started_with, begun_in, begun, stood_with, stood, also, told_with, told, forgotten_with, forgotten, due}
 use Rattle.whole.proofs.Sim.{lead, PassedIn, Passed, Says, Awaited, Walk, stay, then}
-use Rattle.whole.proofs.Fits.{All, all_append, by_cond, walk_on, walk_reach, says_stay, awaited_stays}
+use Rattle.whole.proofs.Fits.{All, all_append, by_cond, walk_on, says_stay, awaited_stays}
 
 pub when_true : {A : Type 0} {q : Bool} (x y : A) → q ≡ true → cond q x y ≡ x
 when_true {q} x y e = subst (λ z. cond z x y ≡ x) (sym e) refl

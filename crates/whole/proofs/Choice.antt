@@ -1,5 +1,5 @@
 -- For each run there is a function that says which server each place of each bucket was given to; so the proofs may take it as given from the start. Assumes nothing.
-use Rattle.std.proofs.Common.{◌≡◌, ℕ, zero, suc, ◌+◌, ◌<◌, ◌≤◌, Bool, true, false, cond, ◌&&◌, eqb, ltb, ◌⊎◌, List, [], ◌∷◌, map, length, get_or, set, Some, None, Ok, Err, Option, Result, sym, refl, ap, ◌∙◌, subst, inl, inr, arith}
+use Rattle.std.proofs.Common.{◌≡◌, ℕ, ◌+◌, ◌<◌, Bool, ◌&&◌, eqb, ltb, ◌⊎◌, List, [], ◌∷◌, length, get_or, set, Some, None, Ok, Err, Option, Result, sym, refl, ap, ◌∙◌, subst, inl, inr, arith}
 use Rattle.std.proofs.lemmas.Bool.{cases_eq}
 use Rattle.std.proofs.lemmas.List.{get_or-set_same, get_or-set_other, get_or-map}
 use Rattle.fault.specs.declared.Fault.{Fault}
@@ -7,7 +7,6 @@ use Rattle.chain.specs.declared.way.Link.{Link}
 use Rattle.chain.specs.Ways.{same_link}
 use Rattle.chain.specs.declared.handover.Handover.{Handover}
 use Rattle.chain.specs.declared.handover.Handover.TheVariants.{Idle, AwaitStood, AwaitTold}
-use Rattle.chain.specs.Controllers as chains
 use Rattle.chain.specs.Controllers.{Control, newest_of, has_room, begins_in, stood_in, told_in, above}
 use Rattle.wire.specs.declared.message.Control as said
 use Rattle.wire.specs.declared.message.Control.TheVariants as say
@@ -23,11 +22,11 @@ use Rattle.controller_bucket.specs.Rules as bucket
 use Rattle.controller_bucket.specs.Rules.{Charge, charge_first, started_with, begun_in, stood_with, told_with, forgotten_with}
 use Rattle.controller.specs.Rules as controller
 use Rattle.controller.specs.Rules.{Ruling, charge_at, assigned_at, all_balancers, parts, forgotten_as, ruled_by, door_heard, begun_from, reassigned}
-use Rattle.whole.specs.World.{World, start, Event, server_did, controller_did, balancer_did, Step, comes, arrives, tells, answers, reports, confirms, hears, closes, ticks, adds, removes, waits, Reach, begin, more}
+use Rattle.whole.specs.World.{World, Event, server_did, controller_did, balancer_did, Step, comes, arrives, tells, answers, reports, confirms, hears, closes, ticks, adds, removes, waits}
 use Rattle.whole.proofs.Sim.{lead_of, lead}
 use Rattle.whole.proofs.Fits.{by_cond}
-use Rattle.whole.proofs.Charges.{Right, above_newest}
-use Rattle.whole.proofs.Moves.{Begun, Not, all_begun}
+use Rattle.whole.proofs.Charges.{above_newest}
+use Rattle.whole.proofs.Moves.{all_begun}
 use Rattle.whole.proofs.Sane.{Sane}
 
 -- the place last given is the same, or a higher one

@@ -1,19 +1,18 @@
 -- Sessions are closed, what is unanswered is said again, and places become empty, as steps of their bucket. Assumes nothing.
-use Rattle.std.proofs.Common.{◌≡◌, ℕ, zero, suc, ◌+◌, ◌<◌, ◌≤◌, Bool, true, false, cond, ◌&&◌, ◌||◌, T, eqb, ltb, ◌⊎◌, List, [], ◌∷◌, ◌++◌, map, length, get_or, set, is_some, Some, None, fold, Option, sym, refl, ap, ◌∙◌, subst, inl, inr, arith}
+use Rattle.std.proofs.Common.{◌≡◌, ℕ, suc, ◌+◌, ◌<◌, Bool, true, false, cond, ◌&&◌, ◌||◌, T, eqb, List, [], ◌∷◌, map, length, get_or, is_some, Some, None, fold, Option, sym, refl, ap, ◌∙◌, subst, inl, inr, arith}
 use mathlib.Core.List.Memᴰ
 use mathlib.Core.List.{Memᴰ}
 use Rattle.std.proofs.lemmas.Bool.{cases_eq, cases_Bool, true≢false}
 use Rattle.std.proofs.lemmas.List.{get_or-set_same, get_or-set_other, get_or-map, length-set}
 use Rattle.flow.specs.declared.key.FlowKey.{FlowKey}
 use Rattle.flow.specs.Buckets.{bucket_of}
-use Rattle.flow.specs.Key.{same_flow}
 use Rattle.flow.proofs.Same as flows
 use Rattle.chain.specs.declared.way.Link.{Link}
 use Rattle.chain.specs.Ways.{same_link}
 use Rattle.chain.specs.Places.{handle}
-use Rattle.bucket.specs.Sessions.{is_in, without, put, bump}
+use Rattle.bucket.specs.Sessions.{is_in, without, bump}
 use Rattle.bucket.specs.Model as one
-use Rattle.bucket.proofs.Lists.{put_all, put_here, put_cases, in_without, in_still}
+use Rattle.bucket.proofs.Lists.{put_all, put_cases, in_without, in_still}
 use Rattle.sessions.specs.declared.key.Key.{Key}
 use Rattle.sessions.specs.declared.entry.Entry.{Entry}
 use Rattle.sessions.specs.Keys.{same_key, in_place}
@@ -25,16 +24,15 @@ use Rattle.sessions.proofs.Changes.{count_without, once_without}
 use Rattle.sessions.proofs.Lapse.{taken_idle}
 use Rattle.machine.specs.declared.name.Machine.{Machine}
 use Rattle.machine.specs.declared.name.Machine.TheVariants.{Client, Operator, Balancer, Server, Controller}
-use Rattle.machine.specs.declared.sent.Sent.{Sent}
 use Rattle.machine.specs.Again.{is_due}
 use Rattle.server_bucket.specs.declared.farewell.Farewell.{Farewell}
 use Rattle.server_bucket.specs.Rules as bucket
 use Rattle.server_bucket.specs.Rules.{Holding, unheld, says, tells, due_in, due, older, passed, less_awaited, still_awaited, answered_in}
-use Rattle.server.specs.Rules.{Keeping, holding_at, is_empty, keeps, leaving, emptied, due_from, emptied_all, later, Does, Ordered, closed_at, open_at, ticked, closes}
+use Rattle.server.specs.Rules.{Keeping, holding_at, is_empty, emptied, due_from, emptied_all, later, Does, Ordered, closed_at, open_at, ticked, closes}
 use Rattle.chain.specs.declared.place.Place.{Place}
 use Rattle.whole.specs.World.{key_in, counted, closed_by}
-use Rattle.whole.proofs.Sim.{Fit, Serves, Says, Walk, stay, then}
-use Rattle.whole.proofs.Fits.{All, all_append, all_in, by_cond, Local, local_none, local_then, walk_on, Serving, serving_then, walk_reach}
+use Rattle.whole.proofs.Sim.{Serves, Says, stay, then}
+use Rattle.whole.proofs.Fits.{All, all_append, all_in, by_cond, local_then, walk_on, Serving, serving_then, walk_reach}
 use Rattle.whole.proofs.Places.{put_far, emptied_here, stays}
 
 -- LISTS

@@ -1,5 +1,5 @@
 -- What a balancer does with a packet, by its parts. Assumes nothing.
-use Rattle.std.proofs.Common.{◌≡◌, ℕ, List, Ok, Err, Result, sym, refl, ap, ◌∙◌, arith}
+use Rattle.std.proofs.Common.{◌≡◌, ℕ, List, Ok, Err, Result, ap, arith}
 use Rattle.fault.specs.declared.Fault.{Fault}
 use Rattle.flow.specs.declared.key.FlowKey.{FlowKey}
 use Rattle.flow.specs.declared.ipv4.Flow.{Flow}
@@ -10,7 +10,7 @@ use Rattle.chain.specs.declared.way.Way.TheVariants.{Up}
 use Rattle.wire.specs.declared.message.Head.{Head}
 use Rattle.wire.specs.Meant.{Meant, Carried, Said, Answered, Back, Ordered}
 use Rattle.balancer.specs.Rules.{link_at, sends_flow, sends}
-use Rattle.whole.specs.World.{Was, World, Packet}
+use Rattle.whole.specs.World.{Was, Packet}
 
 -- the packet of a flow that comes by a balancer that knows these links, and the server that it goes to
 abbrev pub coming : ℕ → List Link → Flow → List ℕ → Was → ℕ → ℕ × Packet

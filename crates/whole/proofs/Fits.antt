@@ -1,5 +1,5 @@
 -- What a server keeps still fits after a step of its own, or of another. Assumes nothing.
-use Rattle.std.proofs.Common.{◌≡◌, ℕ, suc, ◌<◌, ◌≤◌, Bool, true, false, cond, T, ◌⊎◌, List, [], ◌∷◌, ◌++◌, map, is_some, Some, None, Option, sym, refl, ◌∙◌, subst, inl, inr, arith}
+use Rattle.std.proofs.Common.{◌≡◌, ℕ, ◌<◌, ◌≤◌, Bool, true, false, cond, T, ◌⊎◌, List, [], ◌∷◌, ◌++◌, Some, None, Option, sym, refl, ◌∙◌, subst, inl, inr, arith}
 use mathlib.Core.List.Memᴰ
 use mathlib.Core.List.{Memᴰ}
 use Rattle.std.proofs.lemmas.Bool.{cases_eq}
@@ -13,12 +13,10 @@ use Rattle.chain.specs.declared.handover.Handover.{Handover}
 use Rattle.chain.specs.declared.handover.Handover.TheVariants.{Idle, AwaitStood, AwaitTold}
 use Rattle.chain.specs.Places.{handle}
 use Rattle.chain.specs.Controllers.{Control}
-use Rattle.bucket.specs.Sessions.{is_in, put}
+use Rattle.bucket.specs.Sessions.{is_in}
 use Rattle.bucket.specs.Model as one
-use Rattle.bucket.proofs.Lists.{put_all}
 use Rattle.places.specs.Rules.{find}
 use Rattle.sessions.specs.declared.entry.Entry.{Entry}
-use Rattle.sessions.specs.Entries.{seen_in}
 use Rattle.wire.specs.declared.message.Control as said
 use Rattle.wire.specs.declared.message.Control.TheVariants as say
 use Rattle.wire.specs.Meant.{Meant, Carried, Said, Answered, Back, Ordered}
@@ -28,9 +26,9 @@ use Rattle.machine.specs.declared.sent.Sent.{Sent}
 use Rattle.machine.specs.Notes.{meant_by}
 use Rattle.server_bucket.specs.Rules.{Holding}
 use Rattle.server.specs.Rules.{Keeping, holding_at}
-use Rattle.whole.specs.World.{Was, NotOpen, Envelope, envelope, posted, World, Quiet}
+use Rattle.whole.specs.World.{Was, NotOpen, Envelope, posted, World}
 use Rattle.whole.proofs.Rows.{IsGone, Less}
-use Rattle.whole.proofs.Sim.{Passed, Missing, Fit, Serves, SaidTo, Reported, AnsweredTo, Announced, ToServer, ToController, ToBalancer, Post, Posted, Says, Awaited, Sim, Walk, stay, then, Next}
+use Rattle.whole.proofs.Sim.{Passed, Missing, Fit, Serves, SaidTo, Reported, AnsweredTo, Announced, ToServer, ToController, ToBalancer, Post, Posted, Says, Awaited, Sim, Walk, stay, then}
 
 -- LISTS
 

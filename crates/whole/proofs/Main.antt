@@ -1,12 +1,11 @@
 -- The promises of the whole, from those of one bucket. Assumes nothing.
-use Rattle.std.proofs.Common.{◌≡◌, ℕ, suc, ◌*◌, ◌<◌, ◌≤◌, T, ◌⊎◌, List, [], ◌∷◌, ◌++◌, length, is_some, Some, None, Option, sym, refl, ap, ◌∙◌, subst, inl, inr, arith}
+use Rattle.std.proofs.Common.{◌≡◌, ℕ, suc, ◌*◌, ◌<◌, ◌≤◌, T, ◌⊎◌, List, [], ◌++◌, length, is_some, Some, None, Option, sym, refl, ap, ◌∙◌, subst, inl, inr, arith}
 use mathlib.Core.List.{Memᴰ}
 use Rattle.std.proofs.lemmas.Nat.{mod_below}
 use Rattle.fault.specs.declared.Refusal.{Refusal}
 use Rattle.flow.specs.declared.key.FlowKey.{FlowKey}
 use Rattle.flow.specs.Buckets.{bucket_of}
-use Rattle.chain.specs.declared.place.Outcome.TheVariants.{Delivered, Opened, Forwarded, Refused, Dropped}
-use Rattle.chain.specs.declared.way.Link.{Link}
+use Rattle.chain.specs.declared.place.Outcome.TheVariants.{Delivered, Opened, Forwarded, Refused}
 use Rattle.chain.specs.declared.way.Way.{Way}
 use Rattle.chain.specs.declared.way.Way.TheVariants.{Up, Down, Asked}
 use Rattle.chain.specs.declared.place.Standing.{Standing}

@@ -1,8 +1,8 @@
 -- Every step of the whole is some steps of each bucket. Assumes nothing.
-use Rattle.std.proofs.Common.{◌≡◌, ℕ, zero, suc, ◌+◌, ◌<◌, ◌≤◌, Bool, true, false, cond, T, eqb, ltb, ◌⊎◌, List, [], ◌∷◌, ◌++◌, map, length, get_or, set, is_some, Some, None, Ok, Err, Option, Result, sym, refl, ap, ◌∙◌, subst, inl, inr, arith}
+use Rattle.std.proofs.Common.{◌≡◌, ℕ, zero, suc, ◌+◌, ◌<◌, Bool, true, false, cond, T, eqb, ltb, ◌⊎◌, List, [], ◌∷◌, map, length, get_or, set, is_some, Some, None, Ok, Err, Option, Result, sym, refl, ap, ◌∙◌, subst, inl, inr, arith}
 use mathlib.Core.List.Memᴰ
 use mathlib.Core.List.{Memᴰ}
-use Rattle.std.proofs.lemmas.Bool.{cases_eq, lt-ltb, true≢false}
+use Rattle.std.proofs.lemmas.Bool.{cases_eq}
 use Rattle.std.proofs.lemmas.List.{get_or-set_same, get_or-set_other, get_or-map}
 use Rattle.fault.specs.declared.Fault.{Fault}
 use Rattle.flow.specs.declared.key.FlowKey.{FlowKey}
@@ -21,10 +21,10 @@ use Rattle.server.specs.Rules.{holding_at, answer_to}
 use Rattle.chain.specs.Places.{handle}
 use Rattle.bucket.specs.Sessions.{is_in, put}
 use Rattle.bucket.specs.Model as one
-use Rattle.bucket.proofs.Lists.{put_all, put_here}
+use Rattle.bucket.proofs.Lists.{put_all}
 use Rattle.wire.specs.declared.message.Control as said
 use Rattle.wire.specs.declared.message.Control.TheVariants as say
-use Rattle.wire.specs.Meant.{Meant, Carried, Said, Answered}
+use Rattle.wire.specs.Meant.{Said, Answered}
 use Rattle.machine.specs.declared.name.Machine.{Machine}
 use Rattle.machine.specs.declared.name.Machine.TheVariants.{Client, Operator, Balancer, Server, Controller}
 use Rattle.machine.specs.declared.sent.Sent.{Sent}
@@ -36,13 +36,13 @@ use Rattle.roster.specs.Listing.{with_server, without_server}
 use Rattle.assignment.specs.Rule as assigned
 use Rattle.controller.specs.Rules as controller
 use Rattle.controller.specs.Rules.{Ruling, charge_at, assigned_at, all_balancers, is_bucket, parts, forgotten_as, told_of, bucket_in, ruled_by, door_heard, heard_of, begun_from, reassigned, due_from, later}
-use Rattle.whole.specs.World.{Was, NotOpen, OpenAt, Envelope, envelope, posted, World, IsOpen, key_in, sends, rules, knows, server_did, controller_did, balancer_did, carries, Packet, Event, Quiet, Handled, Step, comes, arrives, tells, answers, reports, confirms, hears, closes, ticks, adds, removes, waits}
-use Rattle.whole.proofs.Sim.{lead, Passed, Fit, Serves, plain_was, Reported, AnsweredTo, Announced, Post, Posted, Says, traced, Awaited, Sim, Walk, stay, then, Next}
-use Rattle.whole.proofs.Fits.{All, all_append, all_more, by_cond, fit_control, posted_all, post_stays, says_stay, awaited_stays}
+use Rattle.whole.specs.World.{Was, NotOpen, OpenAt, Envelope, posted, World, IsOpen, key_in, sends, rules, knows, controller_did, balancer_did, carries, Event, Quiet, Step, comes, arrives, tells, answers, reports, confirms, hears, closes, ticks, adds, removes, waits}
+use Rattle.whole.proofs.Sim.{Passed, Fit, Serves, plain_was, Reported, AnsweredTo, Announced, Post, Posted, Says, Sim, stay, then, Next}
+use Rattle.whole.proofs.Fits.{All, all_append, by_cond, fit_control, posted_all, post_stays, awaited_stays}
 use Rattle.whole.proofs.Places.{answer_says}
-use Rattle.whole.proofs.Charges.{Steady, steady_none, Ruled, Charging, Right, begun_here, stood_here, told_here, Forgot, forgotten_here, due_here}
+use Rattle.whole.proofs.Charges.{steady_none, Ruled, Charging, Right, begun_here, stood_here, told_here, Forgot, forgotten_here, due_here}
 use Rattle.whole.proofs.Coming.{coming, sends_as, is_coming}
-use Rattle.whole.proofs.Sane.{OwnBucket, Sane}
+use Rattle.whole.proofs.Sane.{Sane}
 use Rattle.whole.proofs.Serve.{sim_sends, unchanged, tells_here, answers_here, closes_all, ticks_all, arrives_all}
 
 put_both : {A C : Type 0} (P : A → C → Type 0) (h : ℕ) (a : A) (c : C) (f : ℕ → A) (k : ℕ → C) → P a c → ((g : ℕ) → P (f g) (k g)) → (g : ℕ) → P (put h a f g) (put h c k g)

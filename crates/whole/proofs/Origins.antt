@@ -1,5 +1,5 @@
 -- Every packet on its way came while its session was open where it says. Assumes nothing.
-use Rattle.std.proofs.Common.{◌≡◌, ℕ, ◌<◌, Bool, true, false, cond, ltb, ◌⊎◌, List, [], ◌∷◌, ◌++◌, length, Ok, Err, Result, sym, refl, subst, inl, inr}
+use Rattle.std.proofs.Common.{◌≡◌, ℕ, List, [], ◌∷◌, ◌++◌, Ok, Err, Result, refl, inl, inr}
 use mathlib.Core.List.Memᴰ
 use mathlib.Core.List.{Memᴰ}
 use Rattle.fault.specs.declared.Fault.{Fault}
@@ -11,7 +11,7 @@ use Rattle.chain.specs.declared.place.Outcome.TheVariants.{Delivered, Opened, Fo
 use Rattle.wire.specs.declared.message.Control as said
 use Rattle.wire.specs.Meant.{Meant, Carried, Said, Answered, Back, Ordered}
 use Rattle.machine.specs.declared.name.Machine.{Machine}
-use Rattle.machine.specs.declared.name.Machine.TheVariants.{Client, Operator, Balancer, Server, Controller}
+use Rattle.machine.specs.declared.name.Machine.TheVariants.{Balancer, Server, Controller}
 use Rattle.machine.specs.declared.sent.Note.{Note}
 use Rattle.machine.specs.declared.sent.Note.TheVariants.{Say, Answer, PutOff}
 use Rattle.machine.specs.declared.sent.Sent.{Sent}

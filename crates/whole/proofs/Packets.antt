@@ -1,44 +1,36 @@
 -- A packet at a server, as a step of its bucket. Assumes nothing.
-use Rattle.std.proofs.Common.{◌≡◌, ℕ, zero, suc, ◌<◌, ◌≤◌, Bool, true, false, cond, T, eqb, ltb, ◌⊎◌, List, [], ◌∷◌, ◌++◌, length, is_some, Some, None, Option, sym, refl, ap, ◌∙◌, subst, inl, inr, arith}
+use Rattle.std.proofs.Common.{◌≡◌, ℕ, ◌≤◌, Bool, true, false, cond, T, ltb, ◌⊎◌, List, ◌∷◌, length, is_some, Some, None, Option, sym, refl, ap, ◌∙◌, subst, inl, inr}
 use mathlib.Core.List.Memᴰ
 use mathlib.Core.List.{Memᴰ}
-use Rattle.std.specs.Map.{update}
 use Rattle.flow.specs.declared.key.FlowKey.{FlowKey}
-use Rattle.flow.specs.Buckets.{bucket_of}
-use Rattle.flow.specs.Key.{same_flow}
 use Rattle.chain.specs.declared.way.Link.{Link}
 use Rattle.chain.specs.declared.way.Way.{Way}
 use Rattle.chain.specs.declared.place.Standing.{Standing}
 use Rattle.chain.specs.declared.place.Standing.TheVariants.{Never, Stands, Forgotten}
 use Rattle.chain.specs.declared.place.Place.{Place}
-use Rattle.chain.specs.declared.place.Entry as entry
-use Rattle.chain.specs.declared.place.Entry.TheVariants.{Open, Vacant, Full}
 use Rattle.chain.specs.declared.place.Outcome.{Outcome}
 use Rattle.chain.specs.declared.place.Outcome.TheVariants.{Delivered, Opened, Forwarded, Refused, Dropped}
 use Rattle.chain.specs.Places.{handle}
-use Rattle.bucket.specs.Sessions.{is_in, put}
+use Rattle.bucket.specs.Sessions.{is_in}
 use Rattle.bucket.specs.Model as one
 use Rattle.bucket.proofs.Lists.{put_all, put_here, put_cases, in_here, in_there, in_cons}
-use Rattle.bucket.proofs.Invariant.{view, Born, Inv}
+use Rattle.bucket.proofs.Invariant.{Born}
 use Rattle.bucket.proofs.Main.{main, reach_inv}
-use Rattle.places.specs.Rules.{Known, find}
+use Rattle.places.specs.Rules.{find}
 use Rattle.sessions.specs.declared.key.Key.{Key}
 use Rattle.sessions.specs.declared.entry.Entry.{Entry}
 use Rattle.sessions.specs.Keys.{same_key}
 use Rattle.sessions.specs.Entries.{seen_in}
 use Rattle.sessions.specs.Model.{Changed}
 use Rattle.sessions.proofs.Same.{same_refl, same_eq}
-use Rattle.wire.specs.declared.message.Control.TheVariants as say
-use Rattle.wire.specs.declared.message.Head.{Head}
 use Rattle.machine.specs.declared.name.Machine.{Machine}
 use Rattle.machine.specs.declared.name.Machine.TheVariants.{Client, Operator, Balancer, Server, Controller}
 use Rattle.machine.specs.declared.sent.Sent.{Sent}
 use Rattle.server_bucket.specs.Rules.{Holding}
-use Rattle.server.specs.Rules.{Does, key_of, entry_in, place_of, packet_of, effect_of, forwards, hint_from}
-use Rattle.whole.specs.World.{key_in, Envelope, hint_of, Packet, forwarded, carries}
-use Rattle.whole.specs.World as whole
+use Rattle.server.specs.Rules.{Does, entry_in, place_of, packet_of, effect_of, forwards, hint_from}
+use Rattle.whole.specs.World.{key_in, Envelope, hint_of, Packet, forwarded}
 use Rattle.whole.proofs.Sim.{Missing, Fit, Serves, Posted, Says, traced, Walk, stay, then, Saw}
-use Rattle.whole.proofs.Fits.{All, by_cond, Local, local_none, walk_on}
+use Rattle.whole.proofs.Fits.{All, Local, local_none}
 use Rattle.whole.proofs.Places.{put_far, at_right}
 
 -- what becomes of a packet in the bucket; o: what becomes of it at the server; hint: what a balancer is told; es: the sessions after

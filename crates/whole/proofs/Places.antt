@@ -1,25 +1,24 @@
 -- What a server is told of its places, as steps of their bucket. Assumes nothing.
-use Rattle.std.proofs.Common.{◌≡◌, ℕ, zero, suc, ◌<◌, ◌≤◌, Bool, true, false, cond, T, eqb, ltb, ◌⊎◌, List, [], ◌∷◌, ◌++◌, length, take, is_some, Some, None, Ok, Err, Option, Result, sym, refl, ap, ◌∙◌, subst, inl, inr, arith}
+use Rattle.std.proofs.Common.{◌≡◌, ℕ, zero, suc, ◌<◌, ◌≤◌, Bool, true, false, T, eqb, ltb, ◌⊎◌, List, [], ◌∷◌, length, take, is_some, Some, None, Ok, Err, Option, Result, sym, refl, ap, ◌∙◌, subst, inl, inr, arith}
 use mathlib.Core.List.Memᴰ
 use mathlib.Core.List.{Memᴰ}
 use Rattle.fault.specs.declared.Fault.{Fault}
-use Rattle.fault.specs.declared.Fault.TheVariants.{UnknownPlace, ChainFull}
 use Rattle.flow.specs.declared.key.FlowKey.{FlowKey}
 use Rattle.chain.specs.declared.way.Link.{Link}
 use Rattle.chain.specs.declared.place.Standing.{Standing}
 use Rattle.chain.specs.declared.place.Standing.TheVariants.{Never, Stands, Forgotten}
 use Rattle.chain.specs.declared.place.Place.{Place}
 use Rattle.chain.specs.declared.handover.Handover.{Handover}
-use Rattle.chain.specs.declared.handover.Handover.TheVariants.{Idle, AwaitStood, AwaitTold}
+use Rattle.chain.specs.declared.handover.Handover.TheVariants.{AwaitStood}
 use Rattle.chain.specs.Places as place
 use Rattle.chain.specs.Places.{handle, below}
 use Rattle.chain.specs.Controllers.{Control}
 use Rattle.bucket.specs.Sessions.{is_in, is_empty, put}
 use Rattle.bucket.specs.Model as one
 use Rattle.bucket.proofs.Lists.{put_all, in_here}
-use Rattle.bucket.proofs.Invariant.{view, Born, StandOk, Inv}
+use Rattle.bucket.proofs.Invariant.{Born, Inv}
 use Rattle.bucket.proofs.Main.{reach_inv}
-use Rattle.places.specs.Rules.{Known, find, settled, unchanged, stood_with, takes, stands_as, followed_as, freed_as, oldest_in, replaced, remembered, left, after_of, forgotten_as, retires}
+use Rattle.places.specs.Rules.{Known, find, settled, unchanged, stood_with, takes, stands_as, followed_as, freed_as, oldest_in, replaced, remembered, left, forgotten_as, retires}
 use Rattle.sessions.specs.declared.entry.Entry.{Entry}
 use Rattle.sessions.specs.Entries.{seen_in}
 use Rattle.wire.specs.declared.message.Control as said
@@ -28,12 +27,12 @@ use Rattle.machine.specs.declared.name.Machine.{Machine}
 use Rattle.machine.specs.declared.name.Machine.TheVariants.{Client, Operator, Balancer, Server, Controller}
 use Rattle.machine.specs.declared.sent.Sent.{Sent}
 use Rattle.server_bucket.specs.declared.farewell.Farewell.{Farewell}
-use Rattle.server_bucket.specs.Rules.{Holding, farewell_of, departs, only, then_emptied, emptied, says, tells}
+use Rattle.server_bucket.specs.Rules.{Holding, farewell_of, departs, then_emptied, emptied, tells}
 use Rattle.server.specs.Rules.{answer_to}
 use Rattle.whole.specs.World.{key_in}
-use Rattle.whole.proofs.Rows.{IsGone, Tidy, Less, replaced_tidy, replaced_other, replaced_here, stood_here, stood_other, stood_tidy, oldest_found, forgot_tidy, forgot_here, forgot_other}
-use Rattle.whole.proofs.Sim.{PassedIn, Passed, Missing, Fit, Serves, AnsweredTo, Says, Walk, stay, then}
-use Rattle.whole.proofs.Fits.{All, by_cond, fit_same, fit_less, fit_rise, Local, local_none, Serving, serving_then, walk_reach}
+use Rattle.whole.proofs.Rows.{IsGone, Tidy, replaced_tidy, replaced_other, replaced_here, stood_here, stood_other, stood_tidy, oldest_found, forgot_tidy, forgot_here, forgot_other}
+use Rattle.whole.proofs.Sim.{PassedIn, Missing, Fit, Serves, AnsweredTo, Says, stay, then}
+use Rattle.whole.proofs.Fits.{All, by_cond, fit_less, fit_rise, local_none, Serving, serving_then, walk_reach}
 use Rattle.whole.proofs.Below.{reach_below}
 
 pub put_far : {A : Type 0} (host : ℕ → ℕ) (v p k : ℕ) (a : A) (f : ℕ → A) → host p ≡ v → (host k ≡ v → ⊥) → put p a f k ≡ f k

@@ -1,8 +1,7 @@
 -- The runs, step by step; that each step is one is computed. Assumes nothing.
-use Rattle.std.proofs.Common.{◌≡◌, ℕ, Bool, true, false, List, [], ◌∷◌, replicate, Some, refl, arith}
+use Rattle.std.proofs.Common.{◌≡◌, ℕ, true, List, [], ◌∷◌, replicate, Some, refl, arith}
 use mathlib.Core.List.{Memᴰ}
 use lib.Count.{ones}
-use Rattle.flow.specs.declared.key.FlowKey.{FlowKey}
 use Rattle.flow.specs.declared.key.Protocol.TheVariants.{Udp}
 use Rattle.flow.specs.declared.ipv4.Flow.{Flow}
 use Rattle.flow.specs.Key.{same_flow}
@@ -13,15 +12,14 @@ use Rattle.chain.specs.declared.way.Way.{Way}
 use Rattle.chain.specs.declared.way.Way.TheVariants.{Up, Down, Asked}
 use Rattle.places.specs.Rules.{find_in, replace_in, oldest_in}
 use Rattle.sessions.specs.declared.key.Key.{Key}
-use Rattle.sessions.specs.declared.entry.Entry.{Entry}
 use Rattle.sessions.specs.Keys.{same_key, in_place}
 use Rattle.sessions.proofs.Changed.{push_slot, noted_slot}
 use Rattle.wire.specs.declared.message.Control.TheVariants as say
-use Rattle.machine.specs.declared.name.Machine.TheVariants.{Balancer, Server, Controller}
+use Rattle.machine.specs.declared.name.Machine.TheVariants.{Balancer, Server}
 use Rattle.assignment.specs.Rule.{rebalanced}
 use Rattle.server.specs.Rules.{first_holdings}
 use Rattle.controller.specs.Rules.{begun_from, up_from}
-use Rattle.whole.specs.World.{Was, NotOpen, OpenAt, World, start, IsOpen, Packet, counted, Event, Step, comes, arrives, tells, confirms, hears, adds, Reach, begin, more}
+use Rattle.whole.specs.World.{Was, NotOpen, OpenAt, World, start, IsOpen, Packet, counted, Event, Step, comes, arrives, tells, confirms, hears, adds, begin, more}
 use Rattle.whole.specs.Runs.{InRun, SomeRuns}
 
 -- a packet of UDP from 10.0.0.7, port 4242

@@ -1,5 +1,5 @@
 -- The newest place of a bucket, in the whole and in the bucket's model; and what is sent stays sent. Assumes nothing.
-use Rattle.std.proofs.Common.{◌≡◌, ℕ, suc, ◌+◌, ◌-◌, ◌*◌, ◌<◌, ◌≤◌, ◌⊎◌, List, [], ◌∷◌, ◌++◌, Some, None, Ok, Err, Option, Result, sym, refl, ap, ◌∙◌, subst, inl, inr, arith}
+use Rattle.std.proofs.Common.{◌≡◌, ℕ, suc, ◌<◌, ◌≤◌, ◌⊎◌, List, [], ◌∷◌, ◌++◌, Some, None, Ok, Err, Option, Result, sym, refl, ap, ◌∙◌, subst, inl, inr, arith}
 use mathlib.Core.List.{Memᴰ}
 use Rattle.fault.specs.declared.Fault.{Fault}
 use Rattle.chain.specs.declared.way.Link.{Link}
@@ -18,7 +18,7 @@ use Rattle.places.specs.Rules.{find}
 use Rattle.wire.specs.declared.message.Control as said
 use Rattle.wire.specs.declared.message.Control.TheVariants as say
 use Rattle.machine.specs.declared.name.Machine.{Machine}
-use Rattle.machine.specs.declared.name.Machine.TheVariants.{Balancer, Server, Controller}
+use Rattle.machine.specs.declared.name.Machine.TheVariants.{Server, Controller}
 use Rattle.machine.specs.declared.sent.Sent.{Sent}
 use Rattle.balancer.specs.Rules as balancer
 use Rattle.server.specs.Rules as server

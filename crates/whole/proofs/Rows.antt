@@ -1,7 +1,6 @@
 -- Laws of the lists in which a server keeps its places. Assumes nothing.
-use Rattle.std.proofs.Common.{◌≡◌, ℕ, zero, suc, ◌-◌, ◌<◌, ◌≤◌, Bool, true, false, cond, eqb, ltb, ◌⊎◌, List, [], ◌∷◌, length, take, Some, None, Option, sym, refl, subst, inl, inr, arith}
+use Rattle.std.proofs.Common.{◌≡◌, ℕ, zero, suc, ◌-◌, ◌<◌, ◌≤◌, ◌⊎◌, List, [], ◌∷◌, length, take, Some, None, Option, refl, inl, arith}
 use native.Mathlib.Numerals.{unary_clauses}
-use Rattle.chain.specs.declared.way.Link.{Link}
 use Rattle.chain.specs.declared.place.Standing.{Standing}
 use Rattle.chain.specs.declared.place.Standing.TheVariants.{Never, Stands, Forgotten}
 use Rattle.chain.specs.declared.place.Place.{Place}

@@ -1,26 +1,22 @@
 -- Each bucket of a whole that is reached is a state of the bucket's model that is reached. Assumes nothing.
-use Rattle.std.proofs.Common.{◌≡◌, ℕ, zero, suc, ◌<◌, ◌≤◌, Bool, true, false, cond, T, eqb, ltb, ◌⊎◌, List, [], ◌∷◌, map, length, get_or, is_some, Some, None, Option, sym, refl, ap, ◌∙◌, subst, inl, inr, arith}
+use Rattle.std.proofs.Common.{◌≡◌, ℕ, zero, suc, ◌<◌, ◌≤◌, Bool, true, false, cond, eqb, ◌⊎◌, List, [], ◌∷◌, map, length, get_or, Some, None, sym, refl, ap, ◌∙◌, subst, inl, inr, arith}
 use mathlib.Core.List.Memᴰ
 use mathlib.Core.List.{Memᴰ}
 use Rattle.std.proofs.lemmas.Bool.{eqb-true, eqb-false}
 use Rattle.std.proofs.lemmas.List.{get_or-map}
-use Rattle.flow.specs.declared.key.FlowKey.{FlowKey}
-use Rattle.chain.specs.declared.way.Link.{Link}
-use Rattle.chain.specs.declared.place.Standing.{Standing}
-use Rattle.chain.specs.declared.place.Standing.TheVariants.{Never, Stands, Forgotten}
+use Rattle.chain.specs.declared.place.Standing.TheVariants.{Never, Stands}
 use Rattle.chain.specs.Places.{handle}
 use Rattle.chain.specs.Controllers.{Control, first_control}
-use Rattle.bucket.specs.Sessions.{is_in, put}
+use Rattle.bucket.specs.Sessions.{put}
 use Rattle.bucket.specs.Model as one
-use Rattle.bucket.proofs.Lists.{put_all, in_none}
+use Rattle.bucket.proofs.Lists.{in_none}
 use Rattle.places.specs.Rules.{find_in, find, or_else}
-use Rattle.sessions.specs.Entries.{seen_in}
-use Rattle.balancer.specs.Rules.{link_at, first_link}
+use Rattle.balancer.specs.Rules.{first_link}
 use Rattle.server_bucket.specs.Rules.{Holding, unheld, held_first}
-use Rattle.server.specs.Rules.{first_holdings, holding_at}
-use Rattle.controller_bucket.specs.Rules.{Charge, charge_first}
+use Rattle.server.specs.Rules.{first_holdings}
+use Rattle.controller_bucket.specs.Rules.{charge_first}
 use Rattle.controller.specs.Rules.{charge_at}
-use Rattle.whole.specs.World.{World, start, Event, Step, Reach, begin, more}
+use Rattle.whole.specs.World.{World, start, Reach, begin, more}
 use Rattle.whole.proofs.Sim.{lead, Missing, Fit, Serves, Sim}
 use Rattle.whole.proofs.Fits.{by_cond, walk_reach}
 use Rattle.whole.proofs.Charges.{Right}

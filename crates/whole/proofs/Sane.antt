@@ -1,5 +1,5 @@
 -- What is true of every whole, whatever its buckets are at: sizes, numbers, and that a packet names its own bucket. Assumes nothing.
-use Rattle.std.proofs.Common.{◌≡◌, ℕ, List, length}
+use Rattle.std.proofs.Common.{◌≡◌, ℕ, length}
 use mathlib.Core.List.{Memᴰ}
 use Rattle.flow.specs.Buckets.{bucket_of}
 use Rattle.sessions.specs.Entries.{Once}

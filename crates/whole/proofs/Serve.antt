@@ -1,11 +1,11 @@
 -- What a server does with a message, an order and a packet, as steps of each bucket. Assumes nothing.
-use Rattle.std.proofs.Common.{◌≡◌, ℕ, zero, suc, ◌+◌, ◌<◌, ◌≤◌, Bool, true, false, cond, T, eqb, ltb, ◌⊎◌, List, [], ◌∷◌, ◌++◌, map, length, get_or, set, is_some, Some, None, Ok, Err, Option, Result, sym, refl, ap, ◌∙◌, subst, inl, inr, arith}
+use Rattle.std.proofs.Common.{◌≡◌, ℕ, ◌<◌, eqb, List, [], ◌∷◌, length, Some, None, Ok, Err, Option, Result, sym, refl, ap, ◌∙◌, subst, inl, inr}
 use mathlib.Core.List.Memᴰ
 use mathlib.Core.List.{Memᴰ}
 use Rattle.std.proofs.lemmas.Bool.{cases_eq, eqb-true, lt-ltb, true≢false}
 use Rattle.std.proofs.lemmas.List.{get_or-set_same, get_or-set_other}
 use Rattle.fault.specs.declared.Fault.{Fault}
-use Rattle.fault.specs.declared.Fault.TheVariants.{Malformed, NoSuch, UnknownPlace}
+use Rattle.fault.specs.declared.Fault.TheVariants.{NoSuch}
 use Rattle.fault.specs.declared.Refusal.TheVariants.{For}
 use Rattle.flow.specs.declared.key.FlowKey.{FlowKey}
 use Rattle.flow.specs.Buckets.{bucket_of}
@@ -16,19 +16,18 @@ use Rattle.chain.specs.declared.place.Place.{Place}
 use Rattle.chain.specs.declared.place.Outcome.{Outcome}
 use Rattle.chain.specs.declared.place.Outcome.TheVariants.{Delivered, Opened, Forwarded, Refused, Dropped}
 use Rattle.chain.specs.Places.{handle}
-use Rattle.bucket.specs.Sessions.{is_in, put}
+use Rattle.bucket.specs.Sessions.{put}
 use Rattle.bucket.specs.Model as one
 use Rattle.bucket.proofs.Lists.{put_all, put_here}
 use Rattle.bucket.proofs.Invariant.{Inv}
 use Rattle.bucket.proofs.Main.{reach_inv}
-use Rattle.places.specs.Rules.{Known, find, stands_as, followed_as, freed_as}
+use Rattle.places.specs.Rules.{Known, find, stands_as}
 use Rattle.sessions.specs.declared.key.Key.{Key}
 use Rattle.sessions.specs.declared.entry.Entry.{Entry}
-use Rattle.sessions.specs.Entries.{seen_in}
 use Rattle.sessions.specs.Model.{Changed}
 use Rattle.wire.specs.declared.message.Control as said
 use Rattle.wire.specs.declared.message.Control.TheVariants as say
-use Rattle.wire.specs.Meant.{Meant, Carried, Said, Answered}
+use Rattle.wire.specs.Meant.{Said}
 use Rattle.machine.specs.declared.name.Machine.{Machine}
 use Rattle.machine.specs.declared.name.Machine.TheVariants.{Client, Operator, Balancer, Server, Controller}
 use Rattle.machine.specs.declared.sent.Sent.{Sent}
@@ -36,14 +35,13 @@ use Rattle.server_bucket.specs.Rules as bucket
 use Rattle.server_bucket.specs.Rules.{Holding, unheld, only, then_emptied, tells, answered_in}
 use Rattle.server.specs.Rules as server
 use Rattle.server.specs.Rules.{Keeping, holding_at, is_bucket, Effect, Same, Noted, Does, is_empty, standing, changing, told_of, bucket_in, heard_of, effect_of, handled_as, handled_at, answer_to, place_of, packet_of, entry_in, forwards, hint_from, Ordered}
-use Rattle.whole.specs.World.{Envelope, envelope, posted, hint_of, World, sends, keeps, stores, closed_by, counted, server_did, ordered, key_in, Packet, forwarded, carries, taken, Event, Quiet, Handled}
-use Rattle.whole.proofs.Sim.{Fit, Serves, SaidTo, AnsweredTo, Post, Posted, Says, traced, Sim, Walk, stay, then, Saw, Seen, Next}
-use Rattle.whole.proofs.Fits.{All, all_in, by_cond, Local, local_none, Serving, served, served_sim, posted_all, post_stays}
+use Rattle.whole.specs.World.{Envelope, posted, hint_of, World, sends, keeps, stores, closed_by, counted, server_did, ordered, key_in, Packet, forwarded, carries, taken, Quiet, Handled}
+use Rattle.whole.proofs.Sim.{Serves, SaidTo, AnsweredTo, Post, Posted, Says, Sim, stay, Next}
+use Rattle.whole.proofs.Fits.{All, all_in, by_cond, local_none, Serving, served_sim, posted_all}
 use Rattle.whole.proofs.Places as places
 use Rattle.whole.proofs.Packets as packets
 use Rattle.whole.proofs.Closing.{all_at, vacant, Bye, bye_answered, tells_other, closes_here, ticks_here, counted_same}
-use Rattle.whole.proofs.Charges.{when_true}
-use Rattle.whole.proofs.Sane.{OwnBucket, Sane}
+use Rattle.whole.proofs.Sane.{Sane}
 
 module _ (host : ℕ → ℕ) (B b : ℕ) (lt : b < B) (w : World) (s : one.State) (r : one.Reach handle host s) (i : Sim host B b w s) (sane : Sane B w) where
   -- more is sent

@@ -1,12 +1,11 @@
 -- The assignment is even after every order. Assumes nothing.
-use Rattle.std.proofs.Common.{◌≡◌, ℕ, zero, suc, ◌+◌, ◌<◌, ◌≤◌, Bool, true, false, cond, ◌&&◌, eqb, ltb, leb, ◌⊎◌, List, [], ◌∷◌, ◌++◌, length, get_or, Some, None, Ok, Err, Option, Result, sym, refl, ◌∙◌, subst, inl, inr, arith}
+use Rattle.std.proofs.Common.{◌≡◌, ℕ, zero, suc, ◌+◌, ◌<◌, ◌&&◌, eqb, ltb, leb, ◌⊎◌, List, [], ◌∷◌, ◌++◌, length, get_or, Some, None, Ok, Err, Option, Result, refl, inl, inr, arith}
 use Rattle.std.specs.List.{AllByRecursion as All}
 use Rattle.std.proofs.lemmas.Bool.{eqb-false}
 use Rattle.fault.specs.declared.Fault.{Fault}
 use Rattle.chain.specs.declared.way.Link.{Link}
 use Rattle.assignment.specs.Even.{Even}
 use Rattle.assignment.specs.Rule.{answered, rises, is_buckets}
-use Rattle.assignment.proofs.Changes.{Fit}
 use Rattle.assignment.proofs.Best.{even}
 use Rattle.roster.specs.Listing.{among, with_server, without_server}
 use Rattle.wire.specs.declared.message.Control as said

@@ -1,6 +1,6 @@
 -- One bucket of the whole, seen as a state of the bucket's model. A relation, not a function: the bucket's state remembers what the machines have let go of
 -- (forgotten places that a server dropped, messages that were never sent), so it is the history that no machine keeps. Assumes nothing.
-use Rattle.std.proofs.Common.{◌≡◌, ℕ, suc, ◌<◌, ◌≤◌, Bool, T, ◌⊎◌, List, [], ◌∷◌, is_some, Some, None, Option}
+use Rattle.std.proofs.Common.{◌≡◌, ℕ, ◌<◌, ◌≤◌, Bool, T, ◌⊎◌, List, is_some, Some, None, Option}
 use mathlib.Core.List.{Memᴰ}
 use Rattle.flow.specs.declared.key.FlowKey.{FlowKey}
 use Rattle.flow.specs.Buckets.{bucket_of}
@@ -14,10 +14,10 @@ use Rattle.chain.specs.declared.handover.Handover.{Handover}
 use Rattle.chain.specs.declared.handover.Handover.TheVariants.{Idle, AwaitStood, AwaitTold}
 use Rattle.chain.specs.Places.{handle}
 use Rattle.chain.specs.Controllers.{Control, newest_of}
-use Rattle.bucket.specs.Sessions.{is_in, put}
+use Rattle.bucket.specs.Sessions.{is_in}
 use Rattle.bucket.specs.Model as one
 use Rattle.bucket.proofs.Invariant.{Born}
-use Rattle.places.specs.Rules.{Known, find}
+use Rattle.places.specs.Rules.{find}
 use Rattle.sessions.specs.declared.entry.Entry.{Entry}
 use Rattle.sessions.specs.Entries.{seen_in}
 use Rattle.wire.specs.declared.message.Head.{Head}
@@ -33,7 +33,7 @@ use Rattle.server_bucket.specs.declared.farewell.Farewell.{Farewell}
 use Rattle.server_bucket.specs.Rules.{Holding}
 use Rattle.server.specs.Rules.{holding_at}
 use Rattle.controller.specs.Rules.{charge_at}
-use Rattle.whole.specs.World.{Was, NotOpen, OpenAt, Envelope, World, key_in, Packet, Event, Quiet, Handled}
+use Rattle.whole.specs.World.{Was, NotOpen, OpenAt, Envelope, World, key_in, Event, Quiet, Handled}
 use Rattle.whole.proofs.Rows.{Tidy}
 
 -- A SERVER AND A PLACE

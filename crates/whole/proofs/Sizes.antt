@@ -1,5 +1,5 @@
 -- Sizes and numbers stay as they are, and packets and sessions stay in their bucket. Assumes nothing.
-use Rattle.std.proofs.Common.{◌≡◌, ℕ, zero, suc, ◌+◌, ◌<◌, ◌≤◌, Bool, true, false, cond, T, eqb, ltb, ◌⊎◌, List, [], ◌∷◌, ◌++◌, map, length, get_or, set, is_some, Some, None, Ok, Err, Option, Result, sym, refl, ap, ◌∙◌, subst, inl, inr, arith}
+use Rattle.std.proofs.Common.{◌≡◌, ℕ, suc, ◌+◌, T, eqb, ltb, List, [], ◌∷◌, ◌++◌, map, length, set, is_some, Some, None, Ok, Err, Option, Result, sym, refl, ap, ◌∙◌, subst, inl, inr}
 use mathlib.Core.List.Memᴰ
 use mathlib.Core.List.{Memᴰ}
 use Rattle.std.proofs.lemmas.List.{length-set}
@@ -27,14 +27,14 @@ use Rattle.machine.specs.Notes.{meant_by}
 use Rattle.assignment.specs.Rule as assigned
 use Rattle.roster.specs.Listing.{with_server, without_server}
 use Rattle.balancer.specs.Rules as balancer
-use Rattle.server_bucket.specs.Rules.{Holding, passed}
+use Rattle.server_bucket.specs.Rules.{Holding}
 use Rattle.server.specs.Rules as server
 use Rattle.server.specs.Rules.{Keeping, Effect, Same, Noted, Closed, Lapsed, Does, standing, changing, emptied, emptied_all, later, closed_at, open_at, holding_at, effect_of}
 use Rattle.controller_bucket.specs.Rules.{Charge}
 use Rattle.controller_bucket.specs.Rules as bucket
 use Rattle.controller.specs.Rules as controller
 use Rattle.controller.specs.Rules.{Ruling, charge_at, assigned_at, all_balancers, forgotten_as, ruled_by, door_heard, begun_from, reassigned}
-use Rattle.whole.specs.World.{Envelope, envelope, posted, hint_of, World, key_in, Packet, taken, forwarded, carries, server_did, controller_did, balancer_did, Event, Step, comes, arrives, tells, answers, reports, confirms, hears, closes, ticks, adds, removes, waits}
+use Rattle.whole.specs.World.{Envelope, posted, hint_of, World, key_in, Packet, taken, forwarded, carries, server_did, controller_did, balancer_did, Event, Step, comes, arrives, tells, answers, reports, confirms, hears, closes, ticks, adds, removes, waits}
 use Rattle.whole.proofs.Fits.{by_cond}
 use Rattle.whole.proofs.Packets.{noted_or}
 use Rattle.whole.proofs.Closing.{Keyed, keyed_without, length_passed}

@@ -1,7 +1,7 @@
 -- What is promised of all machines together, whatever is late, lost, repeated or out of order, whatever balancers know, and whichever servers come and go. Assumes nothing.
 use Rattle.std.specs.Prelude.{◌≡◌, ℕ, suc, ◌*◌, ◌<◌, ◌≤◌, T, ◌⊎◌, List, length, is_some, Some, None, Option}
 use mathlib.Core.List.{Memᴰ}
-use Rattle.std.specs.List.{AllByRecursion as All}
+use Rattle.std.specs.List.{AllByRecursion}
 use Rattle.fault.specs.declared.Refusal.{Refusal}
 use Rattle.flow.specs.declared.key.FlowKey.{FlowKey}
 use Rattle.flow.specs.Buckets.{bucket_of}
@@ -94,5 +94,5 @@ Main = (listed assignment : List ℕ) (count : ℕ) (w : World) → 0 < length a
 
 -- THE ASSIGNMENT: after every order it is even, unless it is still the first one
 abbrev pub Balanced : Type 0
-Balanced = (listed assignment : List ℕ) (count : ℕ) (w : World) → All (λ s. s < 256) listed → Reach listed assignment count w →
+Balanced = (listed assignment : List ℕ) (count : ℕ) (w : World) → AllByRecursion (λ s. s < 256) listed → Reach listed assignment count w →
     ((w.controller.servers ≡ listed) × (w.controller.assignment ≡ assignment)) ⊎ Even w.controller.servers w.controller.assignment

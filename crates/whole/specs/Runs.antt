@@ -1,5 +1,5 @@
 -- Runs that there must be, so that the promises are not empty. At the start server 3 has all sixteen buckets, and there is one balancer. Assumes nothing.
-use Rattle.std.specs.Prelude.{◌≡◌, ℕ, List, [], ◌∷◌, replicate}
+use Rattle.std.specs.Prelude.{◌≡◌, [], ◌∷◌, replicate}
 use Rattle.chain.specs.declared.place.Outcome.TheVariants.{Delivered, Opened}
 use Rattle.chain.specs.Controllers.{newest_of}
 use Rattle.whole.specs.World.{World, OpenAt, Packet, Handled, Step, Reach}

@@ -1,7 +1,6 @@
 -- The packet, and the hint behind it, or neither.
-use Rattle.std.proofs.Common.{◌≡◌, [], ◌∷◌, sym, ap, ◌∙◌}
+use Rattle.std.proofs.Common.{◌∷◌, ap}
 use Rattle.edge.specs.Posts.{mails_of}
-use Rattle.wire.specs.Forwarding.{forwarded}
 use Rattle.server_edge.specs.Bytes.{forwarded_to, hint_of}
 use Rattle.server_edge.proofs.Steps.{cut_back, both, copied}
 use Rattle.server_edge.proofs.send_on.Goals as goal

@@ -1,5 +1,5 @@
 -- The clock holds the sum, so that the ticks are not refused.
-use Rattle.std.proofs.Common.{◌≡◌, arith}
+use Rattle.std.proofs.Common.{arith}
 use Rattle.machine.specs.Outboxes.{sent_of}
 use Rattle.edge.specs.Posts.{mails_of}
 use Rattle.server.specs.Kept.{keeping, sessions_of}
