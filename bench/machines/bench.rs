@@ -1,31 +1,16 @@
 //! Nanoseconds for each packet and each handover, by the reference and, with `--cfg proved`, by the proved
 //! machines, from the same scripts. The time of the set-up, a script of its own, is taken off; of several runs
 //! the best counts.
+#[path = "../clock.rs"]
+mod clock;
 #[path = "reference.rs"]
 mod reference;
 #[path = "scripts.rs"]
 mod scripts;
 
+use clock::now;
 use reference::*;
 use scripts::{Random, order_close, raw_packet};
-
-#[repr(C)]
-struct Timespec {
-    seconds: i64,
-    nanoseconds: i64,
-}
-
-unsafe extern "C" {
-    fn clock_gettime(clock: i32, time: *mut Timespec) -> i32;
-}
-
-/// The processor time of this thread in ns; others use the machine as well.
-fn now() -> i64 {
-    const THREAD_CPU_TIME: i32 = 3;
-    let mut time = Timespec { seconds: 0, nanoseconds: 0 };
-    unsafe { clock_gettime(THREAD_CPU_TIME, &mut time) };
-    time.seconds * 1_000_000_000 + time.nanoseconds
-}
 
 #[cfg(proved)]
 unsafe extern "C" {

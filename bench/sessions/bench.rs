@@ -2,14 +2,10 @@
 // One line for each size and operation: ns for each step, less the set-up, the best of several runs.
 use std::collections::HashMap;
 
-#[repr(C)]
-struct Timespec {
-    seconds: i64,
-    nanoseconds: i64,
-}
+#[path = "../clock.rs"]
+mod clock;
 
 unsafe extern "C" {
-    fn clock_gettime(clock: i32, time: *mut Timespec) -> i32;
     // The allocator that the function takes first has no bytes, so nothing is passed for it.
     fn play_sessions(script: *const u8, script_len: usize, answers: *mut u8, answers_len: usize) -> usize;
 }
@@ -247,9 +243,7 @@ fn push(script: &mut Vec<u8>, op: u8, k: &Key, tick: u64) {
 
 // The processor's time of this thread, so that other programs on the machine count little.
 fn cpu_ns() -> f64 {
-    let mut t = Timespec { seconds: 0, nanoseconds: 0 };
-    assert_eq!(unsafe { clock_gettime(3, &mut t) }, 0);
-    t.seconds as f64 * 1e9 + t.nanoseconds as f64
+    clock::now() as f64
 }
 
 type Player = fn(&[u8], &mut [u8]) -> usize;

@@ -13,7 +13,7 @@ use Rattle.machine.specs.declared.name.Machine.{Machine}
 use Rattle.machine.specs.declared.name.Machine.TheVariants.{Client}
 use Rattle.edge.specs.declared.sort.Role.TheVariants as role
 use Rattle.edge.specs.Posts.{Mail, Sends, Does}
-use Rattle.edge.specs.Table.{refusal, Stops}
+use Rattle.edge.specs.Admission.{refusal, Stops}
 use Rattle.edge.specs.Sorts.{Sort, Outside, Carries, Tells, Answers, Orders, Refuses, sort}
 use Rattle.balancer.specs.Rules.{Sent, link_at, kept, hears, knows_all}
 use Rattle.balancer.specs.Bytes.{sent_or, answered, is_told, is_said, does, hears_bytes, news_of, news_as, news_in}

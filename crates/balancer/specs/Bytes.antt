@@ -10,7 +10,7 @@ use Rattle.machine.specs.declared.name.Machine.{Machine}
 use Rattle.machine.specs.declared.name.Machine.TheVariants.{Client, Server}
 use Rattle.edge.specs.declared.sort.Role.TheVariants as role
 use Rattle.edge.specs.Posts.{Mail, mail}
-use Rattle.edge.specs.Table.{refusal}
+use Rattle.edge.specs.Admission.{refusal}
 use Rattle.edge.specs.Sorts.{Sort, Outside, Carries, Tells, Answers, Orders, Refuses, sort}
 use Rattle.balancer.specs.declared.News.{News}
 use Rattle.balancer.specs.Rules.{sends, hears}

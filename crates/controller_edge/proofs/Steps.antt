@@ -9,7 +9,7 @@ use Rattle.machine.specs.declared.name.Machine.{Machine}
 use Rattle.machine.specs.declared.sent.Sent.{Sent}
 use Rattle.machine.specs.Steps.{Did}
 use Rattle.edge.specs.Posts.{Mail, Sends}
-use Rattle.edge.specs.Table.{refusal, mail_in, Stops}
+use Rattle.edge.specs.Admission.{refusal, mail_in, Stops}
 use Rattle.controller.specs.Kept.{Ticking}
 use Rattle.controller.specs.Rules.{Ruling, ticked}
 use Rattle.controller_edge.specs.Bytes.{posting, clocked, Hears}

@@ -10,7 +10,7 @@ use Rattle.machine.specs.declared.name.Machine.{Machine}
 use Rattle.machine.specs.declared.sent.Sent.{Sent}
 use Rattle.edge.specs.declared.sort.Role.TheVariants as role
 use Rattle.edge.specs.Posts.{Mail}
-use Rattle.edge.specs.Table.{refusal, mail_in}
+use Rattle.edge.specs.Admission.{refusal, mail_in}
 use Rattle.edge.specs.Sorts.{Sort, Outside, Carries, Tells, Answers, Orders, Refuses, sort}
 use Rattle.controller.specs.Rules.{Ruling, told, heard, adds, removes, ticked}
 

@@ -8,7 +8,7 @@ use Rattle.fault.specs.declared.Refusal.{Refusal}
 use Rattle.wire.specs.Meant.{Back}
 use Rattle.machine.specs.declared.name.Machine.{Machine}
 use Rattle.edge.specs.Posts.{Mail, Puts, Sends}
-use Rattle.edge.specs.Table.{sent_back}
+use Rattle.edge.specs.Admission.{sent_back}
 
 pub none_first : (bs : List ℕ) → length bs ≡ 0 → 0 ≡ get_or bs 0 0
 none_first [] e = refl

@@ -6,7 +6,7 @@ use Rattle.fault.specs.declared.Error.{Error}
 use Rattle.fault.specs.declared.Error.TheVariants.{Of, Memory}
 use Rattle.machine.specs.declared.sent.Sent.{Sent}
 use Rattle.edge.specs.Posts.{Mail, Sends}
-use Rattle.edge.specs.Table.{mail_in}
+use Rattle.edge.specs.Admission.{mail_in}
 
 pub one_more : (was out out' : List Mail) (all : List Sent) (i : ℕ) (d : Sent) → i < length all
     → out ≡ was ++ map mail_in (take i all) → out' ≡ out ++ mail_in (get_or all i d) ∷ [] → out' ≡ was ++ map mail_in (take (i + 1) all)

@@ -1,3 +1,3 @@
 pub mod Posts
-pub mod Table
+pub mod Admission
 pub mod Sorts

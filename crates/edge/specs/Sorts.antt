@@ -15,7 +15,7 @@ use Rattle.edge.specs.declared.sort.Role.{Role}
 use Rattle.edge.specs.declared.sort.Role.TheVariants as role
 use Rattle.edge.specs.declared.sort.Sorted.{Sorted}
 use Rattle.edge.specs.declared.sort.Sorted.TheVariants as sorted
-use Rattle.edge.specs.Table.{takes, kind_in}
+use Rattle.edge.specs.Admission.{takes, kind_in}
 
 pub data Sort : Type 0 where
   -- a packet from outside, which is all of the bytes

@@ -2,7 +2,7 @@
 ghost use Rattle.std.specs.Prelude.{◌≡◌, [], ◌∷◌};
 ghost use Rattle.fault.specs.declared.Refusal.TheVariants.{For};
 ghost use Rattle.edge.specs.Posts.{mails_of, Sends};
-ghost use Rattle.edge.specs.Table.{is_final, is_lost, sent_back, refusal, Stops};
+ghost use Rattle.edge.specs.Admission.{is_final, is_lost, sent_back, refusal, Stops};
 
 use crate::post::Post;
 use crate::sort::kind;

@@ -3,7 +3,7 @@ ghost use Rattle.std.specs.Prelude.{◌≡◌, [], ◌∷◌, map};
 ghost use Rattle.wire.specs.Meant.{Said, Answered};
 ghost use Rattle.wire.specs.Seen.{said};
 ghost use Rattle.edge.specs.Posts.{mails_of, Sends};
-ghost use Rattle.edge.specs.Table.{mail_in};
+ghost use Rattle.edge.specs.Admission.{mail_in};
 
 use crate::post::Post;
 use fault::{Error, Fault, Refusal};

@@ -1,7 +1,7 @@
 // What bytes are to the machine that they come to, by who hands them over.
 ghost use Rattle.std.specs.Prelude.{◌≡◌};
 ghost use Rattle.wire.specs.Seen.{seen};
-ghost use Rattle.edge.specs.Table.{kind_in, takes};
+ghost use Rattle.edge.specs.Admission.{kind_in, takes};
 ghost use Rattle.edge.specs.Sorts.{sort_of, read_as, sort};
 
 use fault::Fault;

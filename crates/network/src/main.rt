@@ -51,7 +51,7 @@ const MOST_HANDLED: usize = 1_000_000;
 
 // The simulation, and what is printed of it.
 #[derive(Drop)]
-struct Hall {
+struct Player {
     simulation: Simulation,
     watch: Watch,
     bytes: bool,
@@ -72,7 +72,7 @@ fn answer(rt: &HostRuntime, number: u64, error: Error) -> anyhow::Result<()> {
     }
 }
 
-impl Hall {
+impl Player {
     fn is_watched(&self, bucket: Option<u16>) -> bool {
         match (self.watch, bucket) {
             (Watch::All, _) | (_, None) => true,
@@ -285,7 +285,7 @@ fn play(rt: &HostRuntime) -> anyhow::Result<()> {
     let Ok(simulation) = Simulation::new(rt.alloc(), 3, 2, 16) else {
         return Err(anyhow!("no memory"));
     };
-    let mut hall = Hall {
+    let mut player = Player {
         simulation,
         watch: Watch::All,
         bytes: false,
@@ -294,7 +294,7 @@ fn play(rt: &HostRuntime) -> anyhow::Result<()> {
     for line in rt.lines(rt.alloc()) {
         let line = line?;
         number = number.wrapping_add(1);
-        hall.play_line(rt, number, line.as_str())?;
+        player.play_line(rt, number, line.as_str())?;
     }
     Ok(())
 }

@@ -26,7 +26,7 @@ use Rattle.machine.specs.declared.sent.Sent.{Sent}
 use Rattle.machine.specs.Steps.{Did}
 use Rattle.edge.specs.declared.sort.Role.TheVariants as role
 use Rattle.edge.specs.Posts.{Mail, mail, Sends}
-use Rattle.edge.specs.Table.{refusal, takes, kind_in, mail_in, Stops}
+use Rattle.edge.specs.Admission.{refusal, takes, kind_in, mail_in, Stops}
 use Rattle.edge.specs.Sorts.{Carries, Refuses, read_as, sort}
 use Rattle.server.specs.Kept.{Obeys}
 use Rattle.server.specs.Rules as rules

@@ -24,7 +24,7 @@ use Rattle.machine.specs.declared.name.Machine.TheVariants.{Client, Server}
 use Rattle.machine.specs.declared.sent.Sent.{Sent}
 use Rattle.edge.specs.declared.sort.Role.TheVariants as role
 use Rattle.edge.specs.Posts.{Mail, mail}
-use Rattle.edge.specs.Table.{kind_in, sent_back, refusal, mail_in}
+use Rattle.edge.specs.Admission.{kind_in, sent_back, refusal, mail_in}
 use Rattle.edge.specs.Sorts.{Sort, Outside, Carries, Tells, Answers, Orders, Refuses, sort}
 use Rattle.server.specs.Rules.{Keeping, Handled, Ordered, Effect, Same, Does, handles, told, heard, closes, ticked}
 use Rattle.server.specs.declared.passed.Passed.{Passed}

@@ -2,7 +2,7 @@
 use Rattle.std.proofs.Common.{◌++◌, map, ap, ◌∙◌, arith}
 use Rattle.std.proofs.lemmas.List.{take_all}
 use Rattle.edge.specs.Posts.{mails_of}
-use Rattle.edge.specs.Table.{mail_in}
+use Rattle.edge.specs.Admission.{mail_in}
 use Rattle.edge.proofs.Sending.{one_more, cut_back}
 use Rattle.edge.proofs.send.send_all.Goals as goal
 
