@@ -5,12 +5,12 @@ set -eu
 root=$(cd "$(dirname "$0")/../.." && pwd)
 out=${1:-$(mktemp -d)}
 mkdir -p "$out/crates/assignment_c/src"
-for crate in fault assignment; do
+for crate in fault flow assignment; do
     mkdir -p "$out/crates/$crate"
     cp -r "$root/crates/$crate/src" "$root/crates/$crate/specs" "$out/crates/$crate/"
     if [ -d "$root/crates/$crate/proofs" ]; then cp -r "$root/crates/$crate/proofs" "$out/crates/$crate/"; fi
 done
-printf 'fault:\nassignment: fault\nassignment_c staticlib: fault assignment\n' > "$out/crates.txt"
+printf 'fault:\nflow: fault\nassignment: fault flow\nassignment_c staticlib: fault flow assignment\n' > "$out/crates.txt"
 cat > "$out/crates/assignment_c/src/lib.rt" <<'RT'
 // For C to link.
 #![tactic(auto)]
@@ -21,7 +21,7 @@ use assignment::balance::rebalance;
 pub extern "C" fn rebalance_c(assignment: &mut [u16], servers: &[u8]) -> u8 {
     match rebalance(assignment, servers) {
         Ok(()) => 0,
-        Err(fault) => fault.number(),
+        Err(fault) => u8::from(fault),
     }
 }
 RT

@@ -31,7 +31,7 @@ sum_places f (s ∷ ss) (x ∷ r) [] l m e = absurd (omega arith)
 sum_places f (s ∷ ss) (x ∷ r) (y ∷ q) l m e = omega (arith, e 0 (omega arith), sum_places f ss r q (omega arith) (omega arith) (λ i h. e (suc i) (omega arith)))
 
 -- who has quota left has a place
-has_listed : (q : List ℕ) (i : ℕ) → 0 < get_or q i 0 → i < length q
+pub has_listed : (q : List ℕ) (i : ℕ) → 0 < get_or q i 0 → i < length q
 has_listed q i h = elim (cases_lt i (length q)) [ inl y ↦ y | inr n ↦ absurd (omega (arith, get_or_past q i 0 n)) ]
 
 spent_length : (q : List ℕ) (x : ℕ) → length (spent q x) ≡ length q

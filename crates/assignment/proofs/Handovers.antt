@@ -1,24 +1,26 @@
 -- One bucket more in the list of those that change hands, and how many these are. Assumes nothing.
-use Rattle.std.proofs.Common.{◌≡◌, ℕ, suc, ◌+◌, ◌<◌, cond, eqb, List, [], ◌∷◌, ◌++◌, length, get_or, drop, refl, ap, ◌∙◌, inl, inr, append_assoc, add-one, arith}
-use Rattle.std.proofs.lemmas.List.{drop_more, length-append}
+use Rattle.std.proofs.Common.{◌≡◌, ℕ, suc, ◌+◌, ◌<◌, ◌≤◌, cond, eqb, ltb, List, [], ◌∷◌, ◌++◌, length, filter_map, Option, None, Some, sym, refl, inl, inr, add-one, arith}
+use Rattle.std.proofs.lemmas.List.{length-append}
 use Rattle.std.proofs.lemmas.Bool.{lt-ltb, ne_eqb, eq-eqb, cases_eq}
 use Rattle.std.specs.Option.{option_to_list}
-use Rattle.std.specs.List.{AllByRecursion as All}
+use Rattle.std.specs.List.{AllByRecursion as All, cons_option, enumerate_from, zip}
 use Rattle.assignment.specs.declared.moves.Move.{Move}
 use Rattle.assignment.specs.Even.{moved}
 use Rattle.assignment.specs.Moves.{handed, moves_from, CountedMoves}
 
-moves_step : (done : List Move) (xs ys : List ℕ) (b : ℕ) → b < length xs → b < length ys
-    → (done ++ option_to_list (handed b (get_or xs b 0) (get_or ys b 0))) ++ moves_from (b + 1) (drop (b + 1) xs) (drop (b + 1) ys) ≡ done ++ moves_from b (drop b xs) (drop b ys)
-moves_step done xs ys b h k =
-    let one = option_to_list (handed b (get_or xs b 0) (get_or ys b 0)) in
-    rw (drop_more xs b 0 h, drop_more ys b 0 k, append_assoc done one (moves_from (b + 1) (drop (b + 1) xs) (drop (b + 1) ys)))
-    (ap (λ n. done ++ (one ++ moves_from n (drop (b + 1) xs) (drop (b + 1) ys))) (add-one b))
+-- one handover more, or none
+listed_first : (o : Option Move) (rest : List Move) → option_to_list o ++ rest ≡ cons_option o rest
+listed_first None rest = refl
+listed_first (Some m) rest = refl
 
--- the loop's step, where `items` are those so far
-pub moves_again : (done items all : List Move) (xs ys : List ℕ) (b : ℕ) → b < length xs → b < length ys → items ≡ done ++ option_to_list (handed b (get_or xs b 0) (get_or ys b 0))
-    → done ++ moves_from b (drop b xs) (drop b ys) ≡ all → items ++ moves_from (b + 1) (drop (b + 1) xs) (drop (b + 1) ys) ≡ all
-moves_again done items all xs ys b h k e w = rw e (moves_step done xs ys b h k ∙ w)
+-- the buckets by their numbers, which 16 bits hold
+pub moves_numbered : (b : ℕ) (xs ys : List ℕ) → b + length xs ≤ 65536 → filter_map (λ p. cond (ltb p.0 65536) (handed p.0 p.1.0 p.1.1) None) (enumerate_from b (zip xs ys)) ≡ moves_from b xs ys
+moves_numbered b [] ys h = refl
+moves_numbered b (x ∷ xs) [] h = refl
+moves_numbered b (x ∷ xs) (y ∷ ys) h =
+    let t = lt-ltb b 65536 (omega arith) in
+    let next = moves_numbered (b + 1) xs ys (omega arith) in
+    rw (t, next, add-one b) (sym (listed_first (handed b x y) (moves_from (suc b) xs ys)))
 
 one_moved : (b x y : ℕ) → y < 256 → length (option_to_list (handed b x y)) ≡ cond (eqb x y) 0 1
 one_moved b x y h = elim (cases_eq x y) [

@@ -1,6 +1,8 @@
+pub mod Numbers
 pub mod Servers
 pub mod Steps
 pub mod Sums
+pub mod Quotas
 pub mod Changes
 pub mod Best
 pub mod Handovers

@@ -1,10 +1,12 @@
 -- The list of servers, and sums over it. Assumes nothing.
-use Rattle.std.proofs.Common.{◌≡◌, ℕ, zero, suc, ◌+◌, ◌<◌, ◌≤◌, Bool, true, false, cond, eqb, leb, List, [], ◌∷◌, length, get_or, drop, set, sym, refl, ap, ◌∙◌, subst, inl, inr, arith}
-use Rattle.std.specs.List.{AllByRecursion as All}
+use Rattle.std.proofs.Common.{◌≡◌, ℕ, zero, suc, ◌+◌, ◌<◌, ◌≤◌, Bool, true, false, cond, eqb, ltb, leb, List, [], ◌∷◌, length, get_or, drop, set, Some, None, sym, refl, ap, ◌∙◌, subst, inl, inr, add-one, arith}
+use Rattle.std.specs.List.{AllByRecursion as All, IsAllAdjacentAnswer}
 use Rattle.std.proofs.lemmas.List.{at_drop_more, get_or-set_same, get_or-set_other}
-use Rattle.std.proofs.lemmas.Bool.{and_parts, leb-true, le-leb, lt-leb, eq-eqb, ne_eqb, cases_eq}
+use Rattle.std.proofs.lemmas.Bool.{and_parts, leb-true, le-leb, ltb-true, lt-ltb, eq-eqb, ne_eqb, cases_eq, cases_Bool, both_ways}
+use Rattle.std.proofs.lemmas.Bool.Decides.{nat_tests}
 use Rattle.assignment.specs.Even.{count, place, Listed}
-use Rattle.assignment.specs.Rule.{rises_from, sum_over, ahead, rank}
+use Rattle.assignment.specs.Moves.{server_of}
+use Rattle.assignment.specs.Rule.{rises, rises_from, sum_over}
 
 -- 1 where the test holds
 abbrev pub one : Bool → ℕ
@@ -54,44 +56,34 @@ pub count_le : (s : ℕ) (xs : List ℕ) → count s xs ≤ length xs
 count_le s [] = omega arith
 count_le s (x ∷ xs) = omega (arith, one_le (eqb s x), count_le s xs)
 
--- the loop over the list: the next number is high enough, or not
-pub rises_step : (n m : ℕ) (ss : List ℕ) (i : ℕ) → i < length ss → n ≤ get_or ss i 0 → m ≡ get_or ss i 0 + 1 → rises_from m (drop (i + 1) ss) ≡ rises_from n (drop i ss)
-rises_step n m ss i h l e =
-    let f : m ≡ suc (get_or ss i 0) = omega arith in
-    let t = le-leb n (get_or ss i 0) l in
-    rw (at_drop_more (rises_from n) ss i 0 h, t) (ap (λ k. rises_from k (drop (i + 1) ss)) f)
+-- a list rises where each number is below the next, and only there
+rises_next : (n : ℕ) (ss : List ℕ) (i : ℕ) → rises_from n ss ≡ true → suc i < length ss → get_or ss i 0 < get_or ss (suc i) 0
+rises_next n [] i r h = absurd (omega arith)
+rises_next n (s ∷ ss) zero r h = rise_above (suc s) ss 0 (and_parts (leb n s) (rises_from (suc s) ss) r).1 (omega arith)
+rises_next n (s ∷ ss) (suc i) r h = rises_next (suc s) ss i (and_parts (leb n s) (rises_from (suc s) ss) r).1 (omega arith)
 
-pub rises_not : (n : ℕ) (ss : List ℕ) (i : ℕ) → i < length ss → get_or ss i 0 < n → rises_from n (drop i ss) ≡ false
-rises_not n ss i h l =
-    let t = lt-leb n (get_or ss i 0) l in
-    rw (at_drop_more (rises_from n) ss i 0 h, t)
+rises_up : (n : ℕ) (ss : List ℕ) → (0 < length ss → n ≤ get_or ss 0 0) → ((k : ℕ) → suc k < length ss → true ≡ ltb (get_or ss k 0) (get_or ss (suc k) 0)) → rises_from n ss ≡ true
+rises_up n [] h a = refl
+rises_up n (s ∷ ss) h a =
+    let t = le-leb n s (h (omega arith)) in
+    rw t (rises_up (suc s) ss (λ l. ltb-true s (get_or ss 0 0) (sym (a 0 (omega arith)))) (λ k l. a (suc k) (omega arith)))
 
--- below 256 there are at most 256
-pub rises_length : (n : ℕ) (ss : List ℕ) → rises_from n ss ≡ true → ((i : ℕ) → get_or ss i 0 < 256) → n ≤ 256 → n + length ss ≤ 256
-rises_length n [] r low l = omega arith
-rises_length n (s ∷ ss) r low l =
-    let p = and_parts (leb n s) (rises_from (suc s) ss) r in
-    let a = leb-true n s p.0 in
-    let b : s < 256 = low 0 in
-    omega (arith, rises_length (suc s) ss p.1 (λ i. low (suc i)) (omega arith))
+pub rises_is : (ss : List ℕ) (r : Bool) → IsAllAdjacentAnswer (λ x y b. b ≡ ltb x y) ss r → r ≡ rises ss
+rises_is ss true a = sym (rises_up 0 ss (λ h. omega arith) (λ k l. a k 0 (omega arith) ∙ ap (λ n. ltb (get_or ss k 0) (get_or ss n 0)) (add-one k)))
+rises_is ss false a = elim (cases_Bool (rises ss)) [
+  | inl y ↦
+      let up = rises_next 0 ss a.0 y (omega (arith, a.1)) in
+      let down : ltb (get_or ss a.0 0) (get_or ss (suc a.0) 0) ≡ false = ap (λ n. ltb (get_or ss a.0 0) (get_or ss n 0)) (sym (add-one a.0)) ∙ sym (a.2 0) in
+      absurd (both_ways (ltb (get_or ss a.0 0) (get_or ss (suc a.0) 0)) down (lt-ltb (get_or ss a.0 0) (get_or ss (suc a.0) 0) up))
+  | inr n ↦ sym n
+]
 
--- where a server can stand: at most at its number, and at least there less the numbers that are left out
-pub place_most : (n : ℕ) (ss : List ℕ) (i : ℕ) → rises_from n ss ≡ true → i < length ss → n + i ≤ get_or ss i 0
-place_most n [] i r h = absurd (omega arith)
-place_most n (s ∷ ss) zero r h = omega (arith, leb-true n s (and_parts (leb n s) (rises_from (suc s) ss) r).0)
-place_most n (s ∷ ss) (suc i) r h =
-    let p = and_parts (leb n s) (rises_from (suc s) ss) r in
-    omega (arith, leb-true n s p.0, place_most (suc s) ss i p.1 (omega arith))
+-- an entry that is a server is below 256, and any other is not
+pub server_is : (x s : ℕ) → server_of x ≡ Some s → (s ≡ x) × (x < 256)
+server_is x s e = grind (arith, nat_tests)
 
-pub place_least : (n : ℕ) (ss : List ℕ) (i : ℕ) → rises_from n ss ≡ true → ((k : ℕ) → get_or ss k 0 < 256) → i < length ss → get_or ss i 0 + length ss ≤ i + 256
-place_least n [] i r low h = absurd (omega arith)
-place_least n (s ∷ ss) zero r low h =
-    let p = and_parts (leb n s) (rises_from (suc s) ss) r in
-    let b : s < 256 = low 0 in
-    omega (arith, rises_length (suc s) ss p.1 (λ k. low (suc k)) (omega arith))
-place_least n (s ∷ ss) (suc i) r low h =
-    let p = and_parts (leb n s) (rises_from (suc s) ss) r in
-    omega (arith, place_least (suc s) ss i p.1 (λ k. low (suc k)) (omega arith))
+pub server_not : (x : ℕ) → server_of x ≡ None → 256 ≤ x
+server_not x e = grind (arith, nat_tests)
 
 -- the count of the buckets so far, with one more
 pub counted : (s x : ℕ) (xs cs : List ℕ) (b : ℕ) → b < length xs → x ≡ get_or xs b 0 → x < length cs
@@ -124,7 +116,3 @@ count_drop_le s xs b h e =
     let t = eq-eqb s (get_or xs b 0) (sym e) in
     let d' : count s (drop b xs) ≡ 1 + count s (drop (b + 1) xs) = rw t at d in
     omega arith
-
--- one server more is ahead, or not
-pub rank_step : (c : ℕ → ℕ) (ss : List ℕ) (s i : ℕ) → i < length ss → rank c (drop i ss) s ≡ one (ahead c (get_or ss i 0) s) + rank c (drop (i + 1) ss) s
-rank_step c ss s i h = at_drop_more (λ l. rank c l s) ss i 0 h

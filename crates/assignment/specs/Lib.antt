@@ -1,4 +1,5 @@
 pub mod Even
 pub mod Rule
+pub mod Numbers
 pub mod Moves
 pub mod Laws

@@ -1,66 +1,57 @@
 // The even assignment that changes the fewest buckets.
-ghost use Rattle.std.specs.Prelude.{◌≡◌, ◌<◌, ◌≤◌, true, length, OnOk};
+ghost use Rattle.std.specs.Prelude.{◌≡◌, ◌<◌, ◌≤◌, true, map, length, slice_index, OnOk};
 ghost use Rattle.assignment.specs.Even.{Even, Fewest, Numbered};
-ghost use Rattle.assignment.specs.Rule.{rises, kept, kept_quota, dealt, rebalanced, answered};
+ghost use Rattle.assignment.specs.Rule.{rises, dealt, rebalanced, answered};
+ghost use Rattle.assignment.specs.Numbers.{kept_by, left_by};
 
-use crate::counts::{NONE, SERVERS, counts};
-use crate::quota::{is_rising, set_quotas};
+use crate::buckets::is_buckets;
+use crate::counts::{NONE, SERVERS, counts, server_of};
+use crate::quota::{is_rising, quotas};
 use fault::Fault;
 
-const FEWEST: usize = 16;
-
-const MOST: usize = 65536;
-
-// Each bucket whose server is listed and has quota left stays; the others have none. Quotas are counted down.
-fn keep(assignment: &mut [u16], servers: &[u8], quota: &mut [usize])
-    requires { (length quota.old ≡ length servers.now) × (rises servers.now ≡ true) }
-    ensures after { assignment.new ≡ kept servers.now assignment.old quota.old }
-    ensures left { quota.new ≡ kept_quota servers.now assignment.old quota.old }
+// Each bucket whose server has quota left stays; the others have none. Quotas are by the number of the server, and counted down.
+fn keep(assignment: &mut [u16], quota: &mut [usize; SERVERS])
+    ensures after { assignment.new ≡ kept_by assignment.old quota.old }
+    ensures left { quota.new ≡ left_by assignment.old quota.old }
 {
-    'buckets: for b in 0..assignment.len() {
-        // The list rises, so the place of a server is its number less the numbers below it that are not listed.
-        let server = assignment[b] as usize;
-        let first = (server + servers.len()).saturating_sub(SERVERS);
-        let end = servers.len().min(server + 1);
-        for i in (first..end).rev() {
-            if servers[i] as usize == server && quota[i] > 0 {
-                quota[i] -= 1;
-                continue 'buckets;
-            }
+    for entry in assignment.iter_mut() {
+        match server_of(*entry) {
+            Some(server) if quota[usize::from(server)] > 0 => quota[usize::from(server)] -= 1,
+            _ => *entry = NONE,
         }
-        assignment[b] = NONE;
     }
 }
 
-// The buckets that have none, in rising order: each server takes the next ones until its quota is nothing.
-fn deal(assignment: &mut [u16], servers: &[u8], quota: &mut [usize])
-    requires { length quota.old ≡ length servers.now }
-    ensures { assignment.new ≡ dealt servers.now assignment.old quota.old }
+// The buckets that have none, in rising order: each server takes the next ones until its quota is nothing. Nested loops left by a label are a rule of the project.
+fn deal(assignment: &mut [u16], servers: &[u8], quota: &mut [usize; SERVERS])
+    requires { rises servers.now ≡ true }
+    ensures { assignment.new ≡ dealt servers.now assignment.old (map (λ s. slice_index quota.old s) servers.now) }
 {
-    let mut b = 0;
-    'servers: for i in 0..servers.len() {
-        while b < assignment.len() {
-            if assignment[b] == NONE {
-                if quota[i] == 0 {
-                    continue 'servers;
-                }
-                quota[i] -= 1; // down to nothing
-                assignment[b] = u16::from(servers[i]);
+    let mut takers = servers;
+    'buckets: for entry in assignment.iter_mut() {
+        if *entry != NONE {
+            continue;
+        }
+        while let [server, later @ ..] = takers {
+            if quota[usize::from(*server)] > 0 {
+                quota[usize::from(*server)] -= 1; // down to nothing
+                *entry = u16::from(*server);
+                continue 'buckets;
             }
-            b += 1;
+            takers = later;
         }
         break;
     }
 }
 
-// The rule: quotas, then what stays, then what is dealt. `quota` is room for the quota of each server.
-fn balance(assignment: &mut [u16], servers: &[u8], quota: &mut [usize])
-    requires { (length quota.old ≡ length servers.now) × ((rises servers.now ≡ true) × ((0 < length servers.now) × (length assignment.old ≤ 65536))) }
+// The rule: quotas, then what stays, then what is dealt.
+fn balance(assignment: &mut [u16], servers: &[u8])
+    requires { (rises servers.now ≡ true) × ((0 < length servers.now) × (length assignment.old ≤ 65536)) }
     ensures { assignment.new ≡ rebalanced servers.now assignment.old }
 {
-    set_quotas(quota, &counts(assignment), servers, assignment.len());
-    keep(assignment, servers, quota);
-    deal(assignment, servers, quota);
+    let mut quota = quotas(&counts(assignment), servers, assignment.len());
+    keep(assignment, &mut quota);
+    deal(assignment, servers, &mut quota);
 }
 
 // The servers of all buckets after servers were added or removed: even, with the fewest buckets changed. A refusal changes nothing.
@@ -70,8 +61,7 @@ pub fn rebalance(assignment: &mut [u16], servers: &[u8]) -> Result<(), Fault>
     ensures fewest { OnOk result (Fewest servers.now assignment.old assignment.new) }
     ensures numbered { OnOk result (Numbered (length assignment.old) assignment.new) }
 {
-    let buckets = assignment.len();
-    if buckets < FEWEST || buckets > MOST || !buckets.is_power_of_two() {
+    if !is_buckets(assignment.len()) {
         return Err(Fault::NoSuch);
     }
     if servers.is_empty() {
@@ -80,7 +70,6 @@ pub fn rebalance(assignment: &mut [u16], servers: &[u8]) -> Result<(), Fault>
     if !is_rising(servers) {
         return Err(Fault::NoSuch);
     }
-    let mut quota = [0usize; 256];
-    balance(assignment, servers, &mut quota[0..servers.len()]);
+    balance(assignment, servers);
     Ok(())
 }

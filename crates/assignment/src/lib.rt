@@ -2,6 +2,7 @@
 #![tactic(auto)]
 
 pub mod balance;
+pub mod buckets;
 pub mod counts;
 pub mod laws;
 pub mod moves;

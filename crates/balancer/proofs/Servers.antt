@@ -1,16 +1,8 @@
 -- The first links, server by server. Assumes nothing.
 use Rattle.std.proofs.Common.{◌≡◌, ℕ, zero, suc, ◌+◌, ◌<◌, ◌≤◌, true, false, List, [], ◌∷◌, ◌++◌, length, get_or, take, ap, ◌∙◌, inl, inr, arith}
 use Rattle.std.proofs.lemmas.List.{take_more, map_push}
-use Rattle.std.proofs.lemmas.Bool.{lt-ltb, le-ltb, cases_lt}
+use Rattle.std.proofs.lemmas.Bool.{le-ltb, cases_lt}
 use Rattle.balancer.specs.Rules.{are_servers, first_link, first_links}
-
-servers_push : (ss : List ℕ) (s : ℕ) → are_servers ss ≡ true → s < 256 → are_servers (ss ++ s ∷ []) ≡ true
-servers_push [] s h lt = rw (lt-ltb s 256 lt)
-servers_push (x ∷ ss) s h lt = let ih = servers_push ss s in grind arith
-
--- one more server
-pub servers_more : (ss : List ℕ) (i : ℕ) → i < length ss → get_or ss i 0 < 256 → are_servers (take i ss) ≡ true → are_servers (take (i + 1) ss) ≡ true
-servers_more ss i h lt e = rw (take_more ss i 0 h) (servers_push (take i ss) (get_or ss i 0) e lt)
 
 pub links_more : (ss : List ℕ) (i : ℕ) → i < length ss → first_links (take (i + 1) ss) ≡ first_links (take i ss) ++ first_link (get_or ss i 0) ∷ []
 links_more ss i h = ap first_links (take_more ss i 0 h) ∙ map_push first_link (take i ss) (get_or ss i 0)

@@ -1,5 +1,6 @@
 -- What a balancer does: where it begins, what it makes of news, and where it sends a packet. Assumes nothing.
 use Rattle.std.specs.Prelude.{◌≡◌, ℕ, max, Bool, true, false, cond, ◌&&◌, ◌⊎◌, List, [], ◌∷◌, ◌++◌, map, length, Ok, Err, vec_items, fold, Result, ◌==◌, nat_lt, slice_index_or, slice_set}
+use Rattle.std.specs.List.{list_all}
 use Rattle.fault.specs.declared.Error.{Error}
 use Rattle.fault.specs.declared.Error.TheVariants.{Of, Memory}
 use Rattle.fault.specs.declared.Fault.{Fault}
@@ -28,8 +29,7 @@ abbrev pub is_server : ℕ → Bool
 is_server s = nat_lt s 256
 
 abbrev pub are_servers : List ℕ → Bool
-are_servers [] = true
-are_servers (s ∷ ss) = is_server s && are_servers ss
+are_servers ss = list_all is_server ss
 
 -- each of B buckets has a server
 abbrev pub is_assignment : ℕ → List ℕ → Bool

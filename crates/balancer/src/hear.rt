@@ -12,11 +12,10 @@ impl Balancer {
         ensures links { (result, links_of self.new) ≡ hears bucket newest (links_of self.old) }
         ensures buckets { self.new.buckets ≡ self.old.buckets }
     {
-        let at = usize::from(bucket);
-        if at >= self.links.len() {
+        let Some(known) = self.links.get_mut(usize::from(bucket)) else {
             return Err(Fault::NoSuch);
-        }
-        self.links[at] = self.links[at].heard(newest)?;
+        };
+        *known = known.heard(newest)?;
         Ok(())
     }
 

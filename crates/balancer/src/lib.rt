@@ -21,7 +21,7 @@ pub struct Balancer {
 }
 
 // The newest place of a bucket, as it is told.
-#[derive(Clone, Copy)]
+#[derive(Clone, Copy, PartialEq, Eq, Debug)]
 pub struct News {
     pub bucket: u16,
     pub newest: Link,

@@ -14,12 +14,7 @@ const LAST_SERVER: u16 = 255;
 pub fn are_servers(numbers: &[u16]) -> bool
     ensures { result ≡ are_servers numbers.now }
 {
-    for number in numbers {
-        if *number > LAST_SERVER {
-            return false;
-        }
-    }
-    true
+    numbers.iter().all(|number| *number <= LAST_SERVER)
 }
 
 // Place 1 of each bucket, at its server.

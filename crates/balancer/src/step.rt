@@ -8,11 +8,10 @@ use crate::Balancer;
 use chain::way::Link;
 use edge::post::Post;
 use edge::refuse::{refuse, refuse_for};
-use edge::send::answer;
 use edge::sort::{Role, Sorted, sort};
 use fault::{Error, Fault};
 use machine::name::Machine;
-use wire::message::Control;
+use wire::message::{Control, Message};
 
 impl Balancer {
     // A packet from outside goes to the server of the place that is known of its bucket, or back.
@@ -39,14 +38,12 @@ impl Balancer {
         ensures buckets { self.new.buckets ≡ self.old.buckets }
     {
         let start = out.len();
-        out.put(from, answer(Control::Door { bucket, newest }))?;
-        match self.told(bucket, newest) {
-            Ok(()) => Ok(()),
-            Err(fault) => {
-                out.truncate(start);
-                refuse(from, fault, bytes, out)
-            }
+        out.put(from, Message::Answer(Control::Door { bucket, newest }))?;
+        if let Err(fault) = self.told(bucket, newest) {
+            out.truncate(start);
+            return refuse(from, fault, bytes, out);
         }
+        Ok(())
     }
 
     // Of the messages about places only news of a newest place are for a balancer.

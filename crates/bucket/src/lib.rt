@@ -9,29 +9,21 @@ ghost use Rattle.bucket.specs.Cases.{WorkedCases};
 
 // Whatever is late, lost, repeated or out of order, whatever balancers know, however often the bucket changes hands:
 // no session is open twice, and none that is open loses a packet to a refusal.
-pub fn every_run_keeps_sessions() -> u8
+pub fn every_run_keeps_sessions()
     ensures { Main }
-{
-    0
-}
+{}
 
 // The promises are not empty: sessions are opened, found in old places, opened past forgotten ones, and refused once closed.
-pub fn runs_exist() -> u8
+pub fn runs_exist()
     ensures { SomeRuns }
-{
-    0
-}
+{}
 
 // Five rules that come near the rule of a place, each with a run in which it breaks a promise.
-pub fn near_misses_break() -> u8
+pub fn near_misses_break()
     ensures { AllBreak }
-{
-    0
-}
+{}
 
 // The worked cases, as rows of one table.
-pub fn worked_cases_hold() -> u8
+pub fn worked_cases_hold()
     ensures { WorkedCases }
-{
-    0
-}
+{}

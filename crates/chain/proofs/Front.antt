@@ -1,4 +1,5 @@
 -- The controller's chain as the front of its array of eight. Assumes nothing.
+use Rattle.std.specs.Prelude.{nat_le, position, unwrap_or}
 use Rattle.std.proofs.Common.{◌≡◌, ℕ, zero, suc, ◌+◌, ◌-◌, ◌<◌, ◌≤◌, true, false, List, [], ◌∷◌, ◌++◌, length, get_or, take, drop, set, sym, refl, ap, ◌∙◌, add-one, arith}
 use Rattle.std.proofs.lemmas.List.{length-take-le, length-drop, take-take}
 use Rattle.std.proofs.lemmas.Bool.Decides.{nat_tests}
@@ -52,25 +53,11 @@ unfolding above
 above_some n [] h = absurd (omega arith)
 above_some n (l ∷ ls) h = grind (arith, nat_tests)
 
--- the place at i is above n, or it is the first that is not
-pub above_past : (n : ℕ) (ls : List Link) (i : ℕ) → i < length ls → n < (get_or ls i none).place
-    → length (above n (drop i ls)) ≡ suc (length (above n (drop (suc i) ls)))
+-- the first that is not above n stands behind all that are
+pub above_first : (n : ℕ) (ls : List Link) → unwrap_or (position (λ (l : Link). nat_le l.place n) ls) (length ls) ≡ length (above n ls)
 unfolding above
-above_past n [] i h k = absurd (omega arith)
-above_past n (l ∷ ls) zero h k = grind (arith, nat_tests)
-above_past n (l ∷ ls) (suc i) h k = above_past n ls i (omega arith) k
-
-pub above_ends : (n : ℕ) (ls : List Link) (i : ℕ) → i < length ls → (get_or ls i none).place ≤ n → length (above n (drop i ls)) ≡ 0
-unfolding above
-above_ends n [] i h k = absurd (omega arith)
-above_ends n (l ∷ ls) zero h k = grind (arith, nat_tests)
-above_ends n (l ∷ ls) (suc i) h k = above_ends n ls i (omega arith) k
-
-pub get_front : (ls : List Link) (n i : ℕ) → i < n → get_or (take n ls) i none ≡ get_or ls i none
-get_front ls zero i h = absurd (omega arith)
-get_front [] (suc n) i h = refl
-get_front (l ∷ ls) (suc n) zero h = refl
-get_front (l ∷ ls) (suc n) (suc i) h = get_front ls n i (omega arith)
+above_first n [] = refl
+above_first n (l ∷ ls) = let ih = above_first n ls in grind (arith, nat_tests)
 
 -- A HANDOVER IS DONE
 

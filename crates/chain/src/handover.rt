@@ -3,7 +3,7 @@ use crate::way::Link;
 
 // Idle: none is in progress. AwaitStood: the new place was told to stand, and has not answered.
 // AwaitTold: it stands; the newest place was told of it, and has not answered.
-#[derive(Clone, Copy)]
+#[derive(Clone, Copy, PartialEq, Eq, Debug)]
 pub enum Handover {
     Idle,
     AwaitStood(Link),

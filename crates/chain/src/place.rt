@@ -7,8 +7,9 @@ use fault::{Fault, Refusal};
 
 // Never: nobody stood here yet. Stands: with the place before it and the place after it, if there are such.
 // Forgotten: only the place after it is remembered.
-#[derive(Clone, Copy)]
+#[derive(Clone, Copy, PartialEq, Eq, Default, Debug)]
 pub enum Standing {
+    #[default]
     Never,
     Stands {
         before: Option<Link>,
@@ -19,14 +20,14 @@ pub enum Standing {
     },
 }
 
-#[derive(Clone, Copy)]
+#[derive(Clone, Copy, PartialEq, Eq, Default, Debug)]
 pub struct Place {
     pub link: Link,
     pub standing: Standing,
 }
 
 // What a server's store of sessions says of a packet's session at one of its places.
-#[derive(Clone, Copy)]
+#[derive(Clone, Copy, PartialEq, Eq, Debug)]
 pub enum Entry {
     // It is open here.
     Open,
@@ -36,7 +37,7 @@ pub enum Entry {
     Full,
 }
 
-#[derive(Clone, Copy)]
+#[derive(Clone, Copy, PartialEq, Eq, Debug)]
 pub enum Outcome {
     Delivered,
     Opened,
@@ -69,7 +70,7 @@ impl Place {
                 },
                 Some(said),
             ) => {
-                if said.same(known) {
+                if said == known {
                     Ok(self)
                 } else {
                     Err(Fault::Contradiction)
@@ -115,7 +116,7 @@ impl Place {
                 ..
             }
             | Standing::Forgotten { after: known } => {
-                if after.same(known) {
+                if after == known {
                     Ok(self)
                 } else {
                     Err(Fault::Contradiction)

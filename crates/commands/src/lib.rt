@@ -1,7 +1,5 @@
-// The script of the simulation: its words, and flows as text and as packets.
+// The script of the simulation: a line of text is one command, or a fault.
 #![tactic(auto)]
 
 pub mod command;
-pub mod flow_text;
-pub mod inside;
 pub mod read;

@@ -1,9 +1,8 @@
 // A line of the script to its command.
 use crate::command::{Command, Watch};
-use crate::flow_text::read_flow;
 use fault::Fault;
-use flow::key::FlowKey;
 use machine::name::Machine;
+use script::word::{number, switch};
 
 // Without numbers of its own, `reset` means these.
 const SERVERS: u8 = 3;
@@ -13,6 +12,7 @@ const BALANCERS: u16 = 2;
 const BUCKETS: u32 = 16;
 
 // An unknown word or too many or too few of them: fault 1. A flow that is none: fault 3.
+// The hall's reader has this form too, but other commands, words and numbers: the two share what reads one word.
 pub fn read_line(line: &str) -> Result<Command, Fault> {
     let mut words = line.split_whitespace();
     let Some(word) = words.next() else {
@@ -58,10 +58,10 @@ fn read_one(word: &str, only: &str) -> Result<Command, Fault> {
     match (word, only) {
         ("all", "latest") => Ok(Command::AllLatest),
         ("all", _) => Ok(Command::AllOf {
-            bucket: read_door(only)?,
+            bucket: number(only)?,
         }),
         ("next", _) => Ok(Command::NextOf {
-            bucket: read_door(only)?,
+            bucket: number(only)?,
         }),
         ("deaf", "none") => Ok(Command::Deaf { to: None }),
         ("deaf", "office") => Ok(Command::Deaf {
@@ -69,15 +69,15 @@ fn read_one(word: &str, only: &str) -> Result<Command, Fault> {
         }),
         ("watch", _) => Ok(Command::Watching(read_watch(only)?)),
         ("bytes", _) => Ok(Command::Bytes {
-            shown: read_switch(only)?,
+            shown: switch(only)?,
         }),
         ("close", _) => Ok(Command::Close {
-            flow: flow_of(only)?,
+            flow: only.parse()?,
         }),
         ("show", _) => Ok(Command::Show {
-            flow: flow_of(only)?,
+            flow: only.parse()?,
         }),
-        _ => read_counted(word, read_number(only)?),
+        _ => read_counted(word, number(only)?),
     }
 }
 
@@ -103,40 +103,32 @@ fn read_counted(word: &str, number: u32) -> Result<Command, Fault> {
 fn read_more(word: &str, first: &str, second: &str, third: Option<&str>) -> Result<Command, Fault> {
     match (word, third) {
         ("packet", None) => Ok(Command::Packet {
-            balancer: read_door(first)?,
-            flow: flow_of(second)?,
+            balancer: number(first)?,
+            flow: second.parse()?,
             opens: false,
         }),
         ("packet", Some("open")) => Ok(Command::Packet {
-            balancer: read_door(first)?,
-            flow: flow_of(second)?,
+            balancer: number(first)?,
+            flow: second.parse()?,
             opens: true,
         }),
         ("reset", None) => Ok(Command::Reset {
-            servers: small(read_number(first)?)?,
-            balancers: read_door(second)?,
+            servers: small(number(first)?)?,
+            balancers: number(second)?,
             buckets: BUCKETS,
         }),
         ("reset", Some(buckets)) => Ok(Command::Reset {
-            servers: small(read_number(first)?)?,
-            balancers: read_door(second)?,
-            buckets: read_number(buckets)?,
+            servers: small(number(first)?)?,
+            balancers: number(second)?,
+            buckets: number(buckets)?,
         }),
         ("deaf", None) => Ok(Command::Deaf {
             to: Some(read_machine(first, second)?),
         }),
         ("random", None) => Ok(Command::Random {
-            seed: read_number(first)?,
-            events: read_number(second)?,
+            seed: number(first)?,
+            events: number(second)?,
         }),
-        _ => Err(Fault::Malformed),
-    }
-}
-
-fn read_switch(word: &str) -> Result<bool, Fault> {
-    match word {
-        "on" => Ok(true),
-        "off" => Ok(false),
         _ => Err(Fault::Malformed),
     }
 }
@@ -145,30 +137,18 @@ fn read_watch(word: &str) -> Result<Watch, Fault> {
     match word {
         "all" => Ok(Watch::All),
         "none" => Ok(Watch::None),
-        _ => Ok(Watch::Bucket(read_door(word)?)),
+        _ => Ok(Watch::Bucket(number(word)?)),
     }
 }
 
-fn read_machine(word: &str, number: &str) -> Result<Machine, Fault> {
+fn read_machine(word: &str, name: &str) -> Result<Machine, Fault> {
     match word {
-        "door" => Ok(Machine::Balancer(read_door(number)?)),
-        "house" => Ok(Machine::Server(small(read_number(number)?)?)),
+        "door" => Ok(Machine::Balancer(number(name)?)),
+        "house" => Ok(Machine::Server(small(number(name)?)?)),
         _ => Err(Fault::Malformed),
     }
 }
 
 fn small(number: u32) -> Result<u8, Fault> {
     u8::try_from(number).ok().ok_or(Fault::NoSuch)
-}
-
-fn read_door(word: &str) -> Result<u16, Fault> {
-    word.parse::<u16>().ok().ok_or(Fault::Malformed)
-}
-
-fn read_number(word: &str) -> Result<u32, Fault> {
-    word.parse::<u32>().ok().ok_or(Fault::Malformed)
-}
-
-fn flow_of(word: &str) -> Result<FlowKey, Fault> {
-    read_flow(word).ok_or(Fault::BadPacket)
 }

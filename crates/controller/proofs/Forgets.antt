@@ -1,7 +1,6 @@
 -- A place is forgotten: its server left a chain, that is answered, and what begins is said. Assumes nothing.
-use Rattle.std.proofs.Common.{◌≡◌, ℕ, ◌<◌, ◌≤◌, Bool, List, [], ◌∷◌, ◌++◌, Some, None, Option, sym, refl, ap, ◌∙◌, subst, append_assoc, arith}
-use Rattle.std.proofs.lemmas.List.{append-nil}
-use Rattle.std.proofs.lemmas.Bool.{lt-ltb, le-ltb}
+use Rattle.std.proofs.Common.{◌≡◌, ℕ, ◌<◌, Bool, List, [], ◌∷◌, ◌++◌, Some, None, Option, refl, ap, ◌∙◌, subst, append_assoc, arith}
+use Rattle.std.proofs.lemmas.Bool.{lt-ltb}
 use Rattle.chain.specs.declared.way.Link.{Link}
 use Rattle.wire.specs.declared.message.Control.{Control}
 use Rattle.machine.specs.declared.name.Machine.{Machine}
@@ -11,13 +10,6 @@ use Rattle.controller_bucket.specs.Rules as bucket
 use Rattle.controller_bucket.specs.Rules.{Charge}
 use Rattle.controller_bucket.specs.Kept.{Answers}
 use Rattle.controller.specs.Rules.{Ruling, charge_at, assigned_at, rules, parts, parted_at, forgotten_as, forgets}
-
--- no newer place is kept
-pub forgets_none : (from : Machine) (c : Control) (b n : ℕ) (k : Ruling) (out : List Sent) (l : Link) → l ≡ bucket.newest (charge_at b k) → l.place ≤ n
-    → (k ≡ (forgets from c b n k).1) × (out ≡ out ++ (forgets from c b n k).0)
-forgets_none from c b n k out l e h =
-    let g : (bucket.newest (charge_at b k)).place ≤ n = subst (λ x. x.place ≤ n) e h in
-    rw (le-ltb n (bucket.newest (charge_at b k)).place g) (refl, sym (append-nil out))
 
 forgets_as : (from : Machine) (c : Control) (b n : ℕ) (k : Ruling) (o : Option (List Sent × Charge)) (r : Bool) (ch y : Charge) (was here out : List Sent) → (o ≡ None → ⊥) → Answers o r ch y here out
     → here ≡ was ++ record { to = from; note = Answer c } ∷ []

@@ -1,10 +1,9 @@
 -- What the controller is told and hears, by the message. Assumes nothing.
-use Rattle.std.proofs.Common.{◌≡◌, ℕ, ◌<◌, ◌≤◌, cond, List, [], ◌++◌, length, Ok, Err, Option, Result, sym, refl, subst}
+use Rattle.std.proofs.Common.{◌≡◌, ℕ, ◌<◌, cond, List, [], ◌++◌, length, Ok, Err, Option, Result, sym, subst}
 use Rattle.std.proofs.lemmas.List.{append-nil}
-use Rattle.std.proofs.lemmas.Bool.{lt-ltb, le-ltb}
+use Rattle.std.proofs.lemmas.Bool.{lt-ltb}
 use Rattle.fault.specs.declared.Error.{Error}
-use Rattle.fault.specs.declared.Error.TheVariants.{Of}
-use Rattle.fault.specs.declared.Fault.TheVariants.{Malformed, NoSuch}
+use Rattle.fault.specs.declared.Fault.TheVariants.{NoSuch}
 use Rattle.chain.specs.declared.way.Link.{Link}
 use Rattle.wire.specs.declared.message.Control.{Control}
 use Rattle.wire.specs.declared.message.Control.TheVariants as control
@@ -16,25 +15,10 @@ use Rattle.controller.specs.Rules.{Ruling, is_bucket, bucket_in, told, told_of, 
 abbrev Answer : Type 0
 Answer = Result (Unit {0}) Error
 
--- another bucket than there are
-pub told_outside : (from : Machine) (c : Control) (k : Ruling) (out : List Sent) → length k.charges ≤ bucket_in c → Did (told from c k) (Err (Of NoSuch)) k k out out
-told_outside from c k out h = rw (le-ltb (bucket_in c) (length k.charges) h) (refl, refl, refl)
-
 pub forgotten_told : (from : Machine) (c : Control) (b n : ℕ) (a : Link) (k after : Ruling) (out sent : List Sent) (r : Answer) → c ≡ control.Forgotten b n a → b < length k.charges
     → Did (Ok (forgets from (control.Forgotten b n a) b n k)) r k after out sent → Did (told from c k) r k after out sent
 forgotten_told from c b n a k after out sent r e h d =
     subst (λ x. Did (cond (is_bucket (bucket_in x) k) (told_of from x x k) (Err NoSuch)) r k after out sent) (sym e) (rw (lt-ltb b (length k.charges) h) d)
-
--- no other message is one to a controller
-pub told_rest : (from : Machine) (c : Control) (k : Ruling) (out : List Sent) → bucket_in c < length k.charges → ((b n : ℕ) (a : Link) → c ≡ control.Forgotten b n a → ⊥)
-    → Did (told from c k) (Err (Of Malformed)) k k out out
-told_rest from (control.Stand b n before) k out h no_such = rw (lt-ltb b (length k.charges) h) (refl, refl, refl)
-told_rest from (control.Behind b n a) k out h no_such = rw (lt-ltb b (length k.charges) h) (refl, refl, refl)
-told_rest from (control.Door b l) k out h no_such = rw (lt-ltb b (length k.charges) h) (refl, refl, refl)
-told_rest from (control.Forgotten b n a) k out h no_such = absurd (no_such b n a refl)
-
-pub heard_outside : (from : Machine) (c : Control) (k : Ruling) (out : List Sent) → length k.charges ≤ bucket_in c → (k ≡ (heard from c k).1) × (out ≡ out ++ (heard from c k).0)
-heard_outside from c k out h = rw (le-ltb (bucket_in c) (length k.charges) h) (refl, sym (append-nil out))
 
 abbrev Hears : Machine → Answer → Ruling → Ruling → List Sent → List Sent → Control → Type 0
 Hears from r k after out sent x = Did (Ok (cond (is_bucket (bucket_in x) k) (heard_of from x k) ([], k))) r k after out sent
@@ -50,7 +34,3 @@ heard_behind from c b n a k after out sent r e h d = subst (Hears from r k after
 pub heard_door : (from : Machine) (c : Control) (b : ℕ) (l : Link) (k after : Ruling) (out : List Sent) → c ≡ control.Door b l → b < length k.charges → after ≡ door_heard from b l k
     → (after ≡ (heard from c k).1) × (out ≡ out ++ (heard from c k).0)
 heard_door from c b l k after out e h d = subst (Hears from (Ok tt) k after out out) (sym e) (rw (lt-ltb b (length k.charges) h) (d, sym (append-nil out)))
-
-pub heard_forgotten : (from : Machine) (c : Control) (b n : ℕ) (a : Link) (k : Ruling) (out : List Sent) → c ≡ control.Forgotten b n a → b < length k.charges
-    → (k ≡ (heard from c k).1) × (out ≡ out ++ (heard from c k).0)
-heard_forgotten from c b n a k out e h = subst (Hears from (Ok tt) k k out out) (sym e) (rw (lt-ltb b (length k.charges) h) (refl, sym (append-nil out)))

@@ -1,5 +1,5 @@
 -- One bucket of the controller changes, and nothing else of it. Assumes nothing.
-use Rattle.std.proofs.Common.{◌≡◌, ℕ, ◌+◌, ◌<◌, List, ◌++◌, map, length, get_or, set, sym, ap, ◌∙◌, subst}
+use Rattle.std.proofs.Common.{◌≡◌, false, Result, Ok, Err, is_err, MatchResult, ℕ, ◌+◌, ◌<◌, List, ◌++◌, map, length, get_or, set, sym, ap, ◌∙◌, subst, arith}
 use Rattle.std.proofs.lemmas.List.{map-set, get_or-map}
 use Rattle.machine.specs.declared.sent.Sent.{Sent}
 use Rattle.controller_bucket.specs.declared.kept.Bucket.{Bucket}
@@ -52,3 +52,8 @@ later_is k n cs t e f = rw (e, f)
 
 pub due_is : (k : Ruling) (n : ℕ) (xs : List Charge) (was out : List Sent) → xs ≡ k.charges → out ≡ was ++ due_from 0 n xs → out ≡ was ++ (ticked n k).0
 due_is k n xs was out e f = rw (← e) f
+
+-- what was not refused is said
+pub due_done : {E : Type 0} (P : Unit {0} → Type 0) (Q : E → Type 0) (r : Result (Unit {0}) E) → false ≡ is_err r → MatchResult r P Q → P tt
+due_done P Q (Ok u) e m = m
+due_done P Q (Err x) e m = grind arith

@@ -1,63 +1,21 @@
 -- Searches for a server: the first that is it ends them. Assumes nothing.
-use Rattle.std.proofs.Common.{◌≡◌, ℕ, suc, ◌+◌, ◌<◌, ◌≤◌, Bool, true, false, cond, ◌||◌, List, [], ◌∷◌, ◌++◌, map, length, get_or, drop, Some, None, sym, refl, ap, ◌∙◌, subst, inl, inr, append_assoc, add-one, arith}
+use Rattle.std.proofs.Common.{◌≡◌, ℕ, suc, ◌+◌, ◌<◌, ◌≤◌, true, false, cond, ◌||◌, List, [], ◌∷◌, ◌++◌, map, length, get_or, drop, sym, refl, ap, ◌∙◌, subst, inl, inr, append_assoc, add-one, arith}
+use Rattle.std.specs.List.{list_any}
 use Rattle.std.proofs.lemmas.List.{drop_more, drop_all, append-nil}
-use Rattle.std.proofs.lemmas.Bool.{lt-ltb, le-ltb, cases_Bool}
-use Rattle.std.proofs.lemmas.Bool.Decides.{nat_tests}
+use Rattle.std.proofs.lemmas.Bool.{cases_Bool}
 use Rattle.chain.specs.declared.way.Link.{Link}
 use Rattle.controller_bucket.specs.declared.kept.Bucket.{Bucket}
-use Rattle.controller_bucket.specs.Rules.{Charge, oldest}
+use Rattle.controller_bucket.specs.Rules.{oldest}
 use Rattle.controller_bucket.specs.Kept.{charge}
-use Rattle.controller.specs.Rules.{Ruling, charge_at, up_from, is_among, goes_to, is_in_chain, is_listed}
-use Rattle.controller.specs.Kept.{bucket_at}
+use Rattle.controller.specs.Rules.{Ruling, up_from, is_among, goes_to, is_in_chain}
 use Rattle.controller.specs.declared.status.Waiting.{Waiting}
-use Rattle.controller.specs.Status.{waiting_from, may_go, go_of}
+use Rattle.controller.specs.Status.{waiting_from, may_go, go_of, leaving}
 use Rattle.controller.proofs.Walks.{ups_more}
 
-pub among_here : (s : ℕ) (ls : List Link) (i : ℕ) (d : Link) → i < length ls → (get_or ls i d).server ≡ s → true ≡ is_among s (drop i ls)
-unfolding is_among
-among_here s ls i d h e = rw (drop_more ls i d h) (grind (arith, nat_tests))
-
-pub among_past : (s : ℕ) (ls : List Link) (i : ℕ) (d : Link) → i < length ls → ((get_or ls i d).server ≡ s → ⊥) → is_among s (drop (i + 1) ls) ≡ is_among s (drop i ls)
-unfolding is_among
-among_past s ls i d h e = rw (drop_more ls i d h) (grind (arith, nat_tests))
-
-pub among_end : (s : ℕ) (ls : List Link) (i : ℕ) → length ls ≤ i → false ≡ is_among s (drop i ls)
-unfolding is_among
-among_end s ls i h = rw (drop_all i ls h)
-
-pub listed_here : (s : ℕ) (ss : List ℕ) (i d : ℕ) → i < length ss → get_or ss i d ≡ s → true ≡ is_listed s (drop i ss)
-unfolding is_listed
-listed_here s ss i d h e = rw (drop_more ss i d h) (grind (arith, nat_tests))
-
-pub listed_past : (s : ℕ) (ss : List ℕ) (i d : ℕ) → i < length ss → (get_or ss i d ≡ s → ⊥) → is_listed s (drop (i + 1) ss) ≡ is_listed s (drop i ss)
-unfolding is_listed
-listed_past s ss i d h e = rw (drop_more ss i d h) (grind (arith, nat_tests))
-
-pub listed_end : (s : ℕ) (ss : List ℕ) (i : ℕ) → length ss ≤ i → false ≡ is_listed s (drop i ss)
-unfolding is_listed
-listed_end s ss i h = rw (drop_all i ss h)
-
-abbrev pub in_bucket : ℕ → Charge → Bool
-in_bucket s c = is_among s c.control.kept || goes_to s c.control.handover
-
-pub chain_here : (s : ℕ) (cs : List Bucket) (i : ℕ) (x : Bucket) → i < length cs → x ≡ get_or cs i x → true ≡ in_bucket s (charge x) → true ≡ is_in_chain s (map charge (drop i cs))
-unfolding is_in_chain
-chain_here s cs i x h f e = rw (drop_more cs i x h, ← f, ← e)
-
-pub chain_past : (s : ℕ) (cs : List Bucket) (i : ℕ) (x : Bucket) → i < length cs → x ≡ get_or cs i x → false ≡ in_bucket s (charge x) → is_in_chain s (map charge (drop (i + 1) cs)) ≡ is_in_chain s (map charge (drop i cs))
-unfolding is_in_chain
-chain_past s cs i x h f e = rw (drop_more cs i x h, ← f, ← e)
-
-pub chain_end : (s : ℕ) (cs : List Bucket) (i : ℕ) → length cs ≤ i → false ≡ is_in_chain s (map charge (drop i cs))
-unfolding is_in_chain
-chain_end s cs i h = rw (drop_all i cs h)
-
--- a bucket that is there, and one that is not
-pub bucket_here : (k : Ruling) (b : ℕ) (x : Charge) → b < length k.charges → x ≡ charge_at b k → Some x ≡ bucket_at b k
-bucket_here k b x h e = rw (lt-ltb b (length k.charges) h) (ap Some e)
-
-pub bucket_none : (k : Ruling) (b : ℕ) → length k.charges ≤ b → None ≡ bucket_at b k
-bucket_none k b h = rw (le-ltb b (length k.charges) h)
+-- in a chain, or going there: of what is kept of a bucket, or of the bucket itself
+pub chain_of : (s : ℕ) (cs : List Bucket) → is_in_chain s (map charge cs) ≡ list_any (λ b. is_among s (charge b).control.kept || goes_to s (charge b).control.handover) cs
+chain_of s [] = refl
+chain_of s (c ∷ cs) = ap (λ t. (is_among s (charge c).control.kept || goes_to s (charge c).control.handover) || t) (chain_of s cs)
 
 -- one bucket more: put off, or not
 pub waiting_yes : (cs : List Bucket) (b : ℕ) (x : Bucket) (l : Link) (was here : List Waiting) → b < length cs → x ≡ get_or cs b x → true ≡ (charge x).reported → l ≡ oldest (charge x)
@@ -90,3 +48,6 @@ go_yes k n xs ys t e f = f ∙ (ap (λ zs. zs ++ n ∷ []) e ∙ sym (subst (λ 
 pub go_no : (k : Ruling) (n : ℕ) (xs : List ℕ) → false ≡ may_go n k → xs ≡ go_of k (up_from 0 n) → xs ≡ go_of k (up_from 0 (n + 1))
 go_no k n xs t e =
     e ∙ (sym (append-nil (go_of k (up_from 0 n))) ∙ sym (subst (λ q. go_of k (up_from 0 (n + 1)) ≡ go_of k (up_from 0 n) ++ cond q (n ∷ []) []) (sym t) (go_more k n)))
+
+pub go_all : (k : Ruling) (n : ℕ) (xs : List ℕ) → n ≤ 255 → 255 ≤ n → xs ≡ go_of k (up_from 0 (n + 1)) → xs ≡ leaving k
+go_all k n xs l h e = let f : n + 1 ≡ 256 = omega (arith, l, h) in subst (λ m. xs ≡ go_of k (up_from 0 m)) f e

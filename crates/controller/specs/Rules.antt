@@ -1,5 +1,6 @@
 -- What the controller does with each message and order. The rules of one bucket are those of `controller_bucket`, the assignment's are `assignment`'s. Assumes nothing.
 use Rattle.std.specs.Prelude.{ℕ, zero, suc, ◌+◌, Bool, false, cond, not, ◌&&◌, ◌||◌, List, [], ◌∷◌, ◌++◌, map, length, replicate, Some, None, Ok, Err, Option, Result, ◌==◌, nat_le, nat_lt, slice_index, slice_index_or, slice_set}
+use Rattle.std.specs.List.{list_any}
 use Rattle.fault.specs.declared.Fault.{Fault}
 use Rattle.fault.specs.declared.Fault.TheVariants.{Malformed, NoSuch}
 use Rattle.chain.specs.declared.way.Link.{Link}
@@ -7,6 +8,7 @@ use Rattle.chain.specs.declared.handover.Handover.{Handover}
 use Rattle.chain.specs.declared.handover.Handover.TheVariants.{Idle, AwaitStood, AwaitTold}
 use Rattle.assignment.specs.Rule.{answered}
 use Rattle.roster.specs.Listing.{with_server, without_server}
+pub use Rattle.wire.specs.Controls.{bucket_in}
 use Rattle.wire.specs.declared.message.Control.{Control}
 use Rattle.wire.specs.declared.message.Control.TheVariants as control
 use Rattle.machine.specs.declared.name.Machine.{Machine}
@@ -85,12 +87,6 @@ told_of from c (control.Behind b n a) k = Err Malformed
 told_of from c (control.Door b l) k = Err Malformed
 told_of from c (control.Forgotten b n a) k = Ok (forgets from c b n k)
 
-abbrev pub bucket_in : Control → ℕ
-bucket_in (control.Stand b n before) = b
-bucket_in (control.Behind b n a) = b
-bucket_in (control.Door b l) = b
-bucket_in (control.Forgotten b n a) = b
-
 -- told by a machine: what it sends, and what is left of it; or the fault, and nothing changes
 abbrev pub told : Machine → Control → Ruling → Result (List Sent × Ruling) Fault
 told from c k = cond (is_bucket (bucket_in c) k) (told_of from c c k) (Err NoSuch)
@@ -163,9 +159,8 @@ ticked ticks k = (due_from 0 ticks k.charges, later ticks k)
 
 -- SWITCHING OFF
 
-unfoldable pub is_among : ℕ → List Link → Bool
-is_among s [] = false
-is_among s (l ∷ ls) = s == l.server || is_among s ls
+abbrev pub is_among : ℕ → List Link → Bool
+is_among s ls = list_any (λ l. l.server == s) ls
 
 -- the server that a handover goes to
 abbrev pub goes_to : ℕ → Handover → Bool
@@ -174,13 +169,11 @@ goes_to s (AwaitStood l) = s == l.server
 goes_to s (AwaitTold l) = s == l.server
 
 -- the server is in a chain, or will be
-unfoldable pub is_in_chain : ℕ → List Charge → Bool
-is_in_chain s [] = false
-is_in_chain s (c ∷ cs) = (is_among s c.control.kept || goes_to s c.control.handover) || is_in_chain s cs
+abbrev pub is_in_chain : ℕ → List Charge → Bool
+is_in_chain s cs = list_any (λ c. is_among s c.control.kept || goes_to s c.control.handover) cs
 
-unfoldable pub is_listed : ℕ → List ℕ → Bool
-is_listed s [] = false
-is_listed s (x ∷ xs) = s == x || is_listed s xs
+abbrev pub is_listed : ℕ → List ℕ → Bool
+is_listed s ss = list_any (λ x. x == s) ss
 
 -- a day, in ticks of a 256th of a second
 abbrev pub day : ℕ

@@ -2,7 +2,7 @@
 ghost use Rattle.controller.specs.Settled.{FirstSettled, ToldSettled, HeardSettled, AddedSettled, RemovedSettled, TickedSettled, SettledSteady};
 
 // That it is so at the start, that every step keeps it, and that then nothing is left to begin.
-pub fn settled() -> u8
+pub fn settled()
     ensures first { FirstSettled }
     ensures told { ToldSettled }
     ensures heard { HeardSettled }
@@ -10,6 +10,4 @@ pub fn settled() -> u8
     ensures removed { RemovedSettled }
     ensures ticked { TickedSettled }
     ensures steady { SettledSteady }
-{
-    0
-}
+{}

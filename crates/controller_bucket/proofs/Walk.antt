@@ -1,7 +1,8 @@
 -- Walks through a list: each of its items is said, or one is struck. Assumes nothing.
-use Rattle.std.proofs.Common.{◌≡◌, ℕ, ◌+◌, ◌<◌, ◌≤◌, true, false, cond, List, [], ◌∷◌, ◌++◌, map, length, get_or, take, drop, sym, ap, ◌∙◌, subst, append_assoc, add-one, arith}
-use Rattle.std.specs.List.{remove}
-use Rattle.std.proofs.lemmas.List.{drop_more, drop_all, take_more, take_all, append-nil}
+use Rattle.std.proofs.Common.{◌≡◌, ℕ, suc, ◌+◌, ◌<◌, ◌≤◌, true, false, cond, eqb, List, [], ◌∷◌, ◌++◌, map, length, get_or, drop, Some, None, sym, refl, ap, inl, inr, ◌∙◌, subst, append_assoc, arith}
+use Rattle.std.specs.List.{remove, position, position_or_len}
+use Rattle.std.proofs.lemmas.Bool.{cases_Bool}
+use Rattle.std.proofs.lemmas.List.{drop_more, drop_all, append-nil}
 use Rattle.std.proofs.lemmas.Bool.Decides.{nat_tests}
 use Rattle.chain.specs.declared.way.Link.{Link}
 use Rattle.chain.specs.Controllers.{Control, hears_told}
@@ -21,19 +22,25 @@ said_all f out xs i h = rw (drop_all i xs h) (append-nil out)
 pub doors_are : (b : ℕ) (n m : Link) (xs ys : List ℕ) (out : List Sent) → n ≡ m → xs ≡ ys → out ++ map (door_to b n) xs ≡ out ++ map (door_to b m) ys
 doors_are b n m xs ys out e f = rw (e, f)
 
--- another balancer is passed
-pub strike_past : (d : ℕ) (xs : List ℕ) (i e : ℕ) → i < length xs → (get_or xs i e ≡ d → ⊥)
-    → take (i + 1) xs ++ without_balancer d (drop (i + 1) xs) ≡ take i xs ++ without_balancer d (drop i xs)
-unfolding without_balancer
-strike_past d xs i e h k = rw (drop_more xs i e h, take_more xs i e h, append_assoc (take i xs) (get_or xs i e ∷ []) (without_balancer d (drop (i + 1) xs))) (grind (arith, nat_tests))
+-- the first that is the balancer's is taken out, where there is one
+one_more : (n : ℕ) → 1 + n ≡ suc n
+one_more n = omega arith
 
-pub strike_here : (d : ℕ) (xs : List ℕ) (i e : ℕ) → i < length xs → get_or xs i e ≡ d → remove xs i ≡ take i xs ++ without_balancer d (drop i xs)
+struck : (d : ℕ) (xs : List ℕ) → remove xs (position_or_len (λ x. eqb d x) xs) ≡ without_balancer d xs
 unfolding without_balancer
-strike_here d xs i e h k = rw (drop_more xs i e h, add-one) (grind (arith, nat_tests))
+struck d [] = refl
+struck d (x ∷ xs) = elim (cases_Bool (eqb d x)) [ inl t ↦ rw t refl | inr f ↦ rw (f, one_more (position_or_len (λ y. eqb d y) xs)) (ap (λ ys. x ∷ ys) (struck d xs)) ]
 
-pub strike_none : (d : ℕ) (xs : List ℕ) (i : ℕ) → length xs ≤ i → xs ≡ take i xs ++ without_balancer d (drop i xs)
+pub struck_at : (d : ℕ) (xs ys : List ℕ) (i : ℕ) → xs ≡ ys → Some i ≡ position (λ x. eqb d x) xs → remove ys i ≡ without_balancer d ys
+struck_at d xs ys i e f = let s = struck d ys in grind (arith, nat_tests)
+
+unstruck : (d : ℕ) (xs : List ℕ) → None ≡ position (λ x. eqb d x) xs → xs ≡ without_balancer d xs
 unfolding without_balancer
-strike_none d xs i h = rw (drop_all i xs h, take_all i xs h) (sym (append-nil xs))
+unstruck d [] e = refl
+unstruck d (x ∷ xs) e = let ih = unstruck d xs in grind (arith, nat_tests)
+
+pub struck_none : (d : ℕ) (xs ys : List ℕ) → xs ≡ ys → None ≡ position (λ x. eqb d x) xs → ys ≡ without_balancer d ys
+struck_none d xs ys e f = rw (← e) (unstruck d xs f)
 
 -- what is due, in its two parts
 pub due_said : (b t : ℕ) (c : Charge) (was here after : List Sent) → here ≡ was ++ cond (is_due t c.age) (awaited b c) [] → true ≡ is_due t c.untold_age → after ≡ here ++ doors b c

@@ -2,10 +2,10 @@
 #![tactic(auto)]
 
 use balancer::Balancer;
-use console::{answer, assign, is_asked, print, stop};
+use console::{Fed, assign, run};
 use edge::post::Post;
-use fault::{Error, Fault};
-use lines::read::read_line;
+use fault::Error;
+use lines::kept::Line;
 use settings::kept::Settings;
 use std::alloc::Global;
 
@@ -25,58 +25,34 @@ Then bytes come, in hex, one message to a line, with who hands them over, and wh
   order HEX        an order
 A line that cannot be read is answered with its fault, and changes nothing.";
 
-fn begin(heap: Global, settings: &Settings) -> Result<Balancer, Error> {
-    let (buckets, roster) = assign(heap, settings)?;
-    Balancer::new(heap, buckets, roster.assignment())
+#[derive(Drop)]
+struct Door {
+    balancer: Balancer,
 }
 
-// One line of bytes: what comes of it is printed.
-fn hear(rt: &HostRuntime, balancer: &mut Balancer, number: u64, text: &[u8]) -> anyhow::Result<()> {
-    let line = match read_line(rt.alloc(), text) {
-        Ok(line) => line,
-        Err(error) => return answer(rt, number, error),
-    };
-    let mut post = Post::new(rt.alloc());
-    match balancer.hear(line.machine, line.bytes.as_slice(), &mut post) {
-        Ok(()) => print(rt, &post),
-        Err(error) => answer(rt, number, error),
-    }
-}
+impl Fed for Door {
+    const NAME: &'static str = "door";
 
-fn play(rt: &HostRuntime) -> anyhow::Result<()> {
-    let heap = rt.alloc();
-    let mut settings = Settings::new(heap);
-    let mut running: Option<Balancer> = None;
-    let mut number = 0u64;
-    for line in rt.lines(heap) {
-        let line = line?;
-        number = number.wrapping_add(1);
-        if let Some(balancer) = &mut running {
-            hear(rt, balancer, number, line.as_bytes())?;
-            continue;
-        }
-        match settings.take(heap, line.as_bytes()) {
-            Ok(false) => {}
-            Ok(true) => match begin(heap, &settings) {
-                Ok(balancer) => running = Some(balancer),
-                Err(error) => return Err(stop(heap, number, error)),
-            },
-            Err(error) => return Err(stop(heap, number, error)),
-        }
-    }
-    if running.is_none() {
-        return Err(stop(heap, number.wrapping_add(1), Error::Of(Fault::Malformed)));
-    }
-    Ok(())
-}
+    const HELP: &'static str = HELP;
 
-fn run(rt: &HostRuntime) -> anyhow::Result<()> {
-    if is_asked(rt, "door", HELP)? {
-        return Ok(());
+    fn begin(heap: Global, settings: &Settings) -> Result<Door, Error> {
+        let (buckets, roster) = assign(heap, settings)?;
+        let balancer = Balancer::new(heap, buckets, roster.assignment())?;
+        Ok(Door { balancer })
     }
-    play(rt)
+
+    fn hear<'a>(
+        &mut self,
+        _heap: Global,
+        line: &'a mut Line,
+        post: &mut Post,
+    ) -> Result<Option<&'a [u8]>, Error> {
+        self.balancer
+            .hear(line.machine, line.bytes.as_slice(), post)?;
+        Ok(None)
+    }
 }
 
 fn main(rt: HostRuntime) -> anyhow::Result<()> {
-    run(&rt)
+    run::<Door>(&rt)
 }

@@ -1,5 +1,5 @@
 -- What goes back is the first of the bytes that came. Assumes nothing.
-use Rattle.std.proofs.Common.{◌≡◌, ℕ, ◌-◌, min, List, [], ◌∷◌, length, get_or, take, Ok, Err, Result, sym, refl, ap, ◌∙◌, inl, inr, arith}
+use Rattle.std.proofs.Common.{◌≡◌, ℕ, min, List, [], ◌∷◌, length, take, Ok, Err, Result, sym, ap, ◌∙◌, inl, inr, arith}
 use Rattle.std.proofs.lemmas.List.{take_all, length-take}
 use Rattle.std.proofs.lemmas.Bool.{cases_lt}
 use Rattle.fault.specs.declared.Error.{Error}
@@ -10,14 +10,10 @@ use Rattle.machine.specs.declared.name.Machine.{Machine}
 use Rattle.edge.specs.Posts.{Mail, Puts, Sends}
 use Rattle.edge.specs.Admission.{sent_back}
 
-pub none_first : (bs : List ℕ) → length bs ≡ 0 → 0 ≡ get_or bs 0 0
-none_first [] e = refl
-none_first (x ∷ bs) e = absurd (omega (arith, e))
-
-pub take_min : (bs : List ℕ) (n m : ℕ) → n ≡ min (length bs) m → take (n - 0) bs ≡ take m bs
+pub take_min : (bs : List ℕ) (n m : ℕ) → n ≡ min (length bs) m → take n bs ≡ take m bs
 take_min bs n m e =
     elim (cases_lt (length bs) m) [
-      | inl h ↦ take_all (n - 0) bs (omega (arith, e)) ∙ sym (take_all m bs (omega arith))
+      | inl h ↦ take_all n bs (omega (arith, e)) ∙ sym (take_all m bs (omega arith))
       | inr h ↦ ap (λ k. take k bs) (omega (arith, e))
     ]
 

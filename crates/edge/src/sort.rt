@@ -1,6 +1,7 @@
 // What bytes are to the machine that they come to, by who hands them over.
 ghost use Rattle.std.specs.Prelude.{◌≡◌};
 ghost use Rattle.wire.specs.Seen.{seen};
+ghost use Rattle.wire.specs.Kinds.{kind_number};
 ghost use Rattle.edge.specs.Admission.{kind_in, takes};
 ghost use Rattle.edge.specs.Sorts.{sort_of, read_as, sort};
 
@@ -8,18 +9,19 @@ use fault::Fault;
 use flow::buckets::Buckets;
 use flow::key::FlowKey;
 use machine::name::Machine;
+use wire::kind::{Kind, Topic};
 use wire::message::{Control, Head, Message, Order, Unread};
 use wire_read::read;
 
 // What kind of machine takes the bytes.
-#[derive(Clone, Copy)]
+#[derive(Clone, Copy, PartialEq, Eq, Debug)]
 pub enum Role {
     Balancer,
     Server,
     Controller,
 }
 
-#[derive(Clone, Copy)]
+#[derive(Clone, Copy, PartialEq, Eq, Debug)]
 pub enum Sorted<'a> {
     // A packet from outside, which is all of the bytes.
     Outside,
@@ -42,15 +44,34 @@ impl Role {
     pub fn takes(self, from: Machine, kind: u8) -> bool
         ensures { result ≡ takes self from kind }
     {
+        Kind::try_from(kind).is_ok_and(|kind| self.takes_kind(from, kind))
+    }
+
+    fn takes_kind(self, from: Machine, kind: Kind) -> bool
+        ensures { result ≡ takes self from (kind_number kind) }
+    {
         match (self, from) {
             (_, Machine::Client) => false,
-            (Role::Balancer, Machine::Operator) => kind == 10,
+            (Role::Balancer, Machine::Operator) => kind == Kind::Ticks,
             (Role::Balancer, Machine::Balancer(_)) => false,
-            (Role::Balancer, Machine::Server(_) | Machine::Controller) => kind == 4,
-            (Role::Server, Machine::Operator) => kind == 7 || kind == 10,
-            (Role::Server, _) => kind == 1 || kind == 2 || kind == 3 || kind == 5 || kind == 37,
-            (Role::Controller, Machine::Operator) => kind == 8 || kind == 9 || kind == 10,
-            (Role::Controller, _) => kind == 5 || kind == 34 || kind == 35 || kind == 36,
+            (Role::Balancer, Machine::Server(_) | Machine::Controller) => {
+                matches!(kind, Kind::Control(Topic::Door))
+            }
+            (Role::Server, Machine::Operator) => matches!(kind, Kind::Closed | Kind::Ticks),
+            (Role::Server, _) => matches!(
+                kind,
+                Kind::Packet
+                    | Kind::Control(Topic::Stand | Topic::Behind | Topic::Forgotten)
+                    | Kind::Answer(Topic::Forgotten)
+            ),
+            (Role::Controller, Machine::Operator) => {
+                matches!(kind, Kind::Added | Kind::Removed | Kind::Ticks)
+            }
+            (Role::Controller, _) => matches!(
+                kind,
+                Kind::Control(Topic::Forgotten)
+                    | Kind::Answer(Topic::Stand | Topic::Behind | Topic::Door)
+            ),
         }
     }
 }
@@ -59,10 +80,7 @@ impl Role {
 pub fn kind(bytes: &[u8]) -> u8
     ensures { result ≡ kind_in bytes.now }
 {
-    match bytes {
-        [kind, ..] => *kind,
-        [] => 0,
-    }
+    bytes.first().copied().unwrap_or(0)
 }
 
 fn read_as(found: Result<Message<'_>, Unread>) -> Sorted<'_>

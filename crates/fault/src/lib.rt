@@ -1,11 +1,13 @@
 // Why a machine refuses: ten numbered faults, the refusal that has number 0, and want of memory, which has no number.
 #![tactic(auto)]
 
-ghost use Rattle.std.specs.Prelude.{◌≡◌};
+ghost use Rattle.std.specs.Prelude.{◌≡◌, ok_or};
 ghost use Rattle.fault.specs.Numbers.{fault_number, refusal_number, refusal_of};
 ghost use Rattle.fault.specs.declared.Error.TheVariants.{Of, Memory};
+ghost use Rattle.fault.specs.declared.Fault.TheVariants.{NoSuch};
 
 use std::alloc::{AllocError, AllocFailed};
+use std::fmt;
 
 #[derive(Clone, Copy, PartialEq, Eq, Debug)]
 pub enum Fault {
@@ -31,12 +33,12 @@ pub enum Fault {
     ChainFull,
 }
 
-impl Fault {
-    // The number that stands for the fault in messages and output.
-    pub fn number(self) -> u8
-        ensures { result ≡ fault_number self }
-    {
-        match self {
+// The number that stands for the fault in messages and output.
+impl From<Fault> for u8 {
+    ghost from_gives = { λ f r. r ≡ fault_number f };
+
+    fn from(fault: Fault) -> u8 {
+        match fault {
             Fault::Malformed => 1,
             Fault::NoSuch => 2,
             Fault::BadPacket => 3,
@@ -49,10 +51,12 @@ impl Fault {
             Fault::ChainFull => 10,
         }
     }
+}
 
-    // A few words for people.
-    pub fn text(self) -> &'static str {
-        match self {
+// A few words for people.
+impl fmt::Display for Fault {
+    fn fmt<W: fmt::Write>(&self, f: &mut fmt::Formatter<W>) -> fmt::Result {
+        f.write_str(match self {
             Fault::Malformed => "unknown kind or bad length",
             Fault::NoSuch => "no such bucket, house or way",
             Fault::BadPacket => "not a packet of IPv4 with TCP or UDP",
@@ -63,7 +67,7 @@ impl Fault {
             Fault::Contradiction => "contradicts an earlier message",
             Fault::NoServer => "no house is left",
             Fault::ChainFull => "nine places: the change of hands is put off",
-        }
+        })
     }
 }
 
@@ -76,33 +80,46 @@ pub enum Refusal {
     For(Fault),
 }
 
-impl Refusal {
-    pub fn number(self) -> u8
-        ensures { result ≡ refusal_number self }
-    {
-        match self {
+impl From<Refusal> for u8 {
+    ghost from_gives = { λ r n. n ≡ refusal_number r };
+
+    fn from(refusal: Refusal) -> u8 {
+        match refusal {
             Refusal::Nobody => 0,
-            Refusal::For(fault) => fault.number(),
+            Refusal::For(fault) => u8::from(fault),
         }
     }
+}
 
-    // The refusal with this number, if there is one.
-    pub fn from_number(number: u8) -> Option<Refusal>
-        ensures { result ≡ refusal_of number }
-    {
+// The refusal with this number, if there is one.
+impl TryFrom<u8> for Refusal {
+    type Error = Fault;
+
+    ghost try_from_gives = { λ n r. r ≡ ok_or (refusal_of n) NoSuch };
+
+    fn try_from(number: u8) -> Result<Refusal, Fault> {
         match number {
-            0 => Some(Refusal::Nobody),
-            1 => Some(Refusal::For(Fault::Malformed)),
-            2 => Some(Refusal::For(Fault::NoSuch)),
-            3 => Some(Refusal::For(Fault::BadPacket)),
-            4 => Some(Refusal::For(Fault::UnknownPlace)),
-            5 => Some(Refusal::For(Fault::WrongBucket)),
-            6 => Some(Refusal::For(Fault::WrongAsker)),
-            7 => Some(Refusal::For(Fault::ServerFull)),
-            8 => Some(Refusal::For(Fault::Contradiction)),
-            9 => Some(Refusal::For(Fault::NoServer)),
-            10 => Some(Refusal::For(Fault::ChainFull)),
-            _ => None,
+            0 => Ok(Refusal::Nobody),
+            1 => Ok(Refusal::For(Fault::Malformed)),
+            2 => Ok(Refusal::For(Fault::NoSuch)),
+            3 => Ok(Refusal::For(Fault::BadPacket)),
+            4 => Ok(Refusal::For(Fault::UnknownPlace)),
+            5 => Ok(Refusal::For(Fault::WrongBucket)),
+            6 => Ok(Refusal::For(Fault::WrongAsker)),
+            7 => Ok(Refusal::For(Fault::ServerFull)),
+            8 => Ok(Refusal::For(Fault::Contradiction)),
+            9 => Ok(Refusal::For(Fault::NoServer)),
+            10 => Ok(Refusal::For(Fault::ChainFull)),
+            _ => Err(Fault::NoSuch),
+        }
+    }
+}
+
+impl fmt::Display for Refusal {
+    fn fmt<W: fmt::Write>(&self, f: &mut fmt::Formatter<W>) -> fmt::Result {
+        match self {
+            Refusal::Nobody => f.write_str("nobody has the table"),
+            Refusal::For(fault) => write!(f, "{fault}"),
         }
     }
 }

@@ -1,6 +1,9 @@
 -- Two flows that the test takes for the same are equal, and each is the same as itself. Assumes nothing.
 use Rattle.std.proofs.Common.{◌≡◌, ℕ, true, refl, arith}
 use Rattle.std.proofs.lemmas.Bool.Decides.{nat_tests}
+use denote.Enum.Bare.{sameb}
+use Rattle.std.specs.Prelude.{◌==◌}
+use Rattle.flow.specs.contracts.key.Protocol.{the_type}
 use Rattle.flow.specs.declared.key.Protocol.{Protocol}
 use Rattle.flow.specs.declared.key.Protocol.TheVariants.{Tcp, Udp}
 use Rattle.flow.specs.declared.key.FlowKey.{FlowKey}
@@ -14,6 +17,13 @@ same_protocol Tcp Tcp e = refl
 same_protocol Tcp Udp e = absurd (omega arith)
 same_protocol Udp Tcp e = absurd (omega arith)
 same_protocol Udp Udp e = refl
+
+-- two protocols are equal just where their numbers are, so the derived test of flows is the one of the definition
+pub protocols_same : (p q : Protocol) → sameb the_type p q ≡ (protocol_number p == protocol_number q)
+protocols_same Tcp Tcp = refl
+protocols_same Tcp Udp = refl
+protocols_same Udp Tcp = refl
+protocols_same Udp Udp = refl
 
 pub same_refl : (a : FlowKey) → same_flow a a ≡ true
 unfolding same_flow

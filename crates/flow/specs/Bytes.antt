@@ -1,6 +1,8 @@
 -- Numbers and sessions as bytes, high byte first. Assumes nothing.
-use Rattle.std.specs.Prelude.{◌≡◌, ℕ, ◌+◌, ◌*◌, ◌/◌, ◌%◌, ◌<◌, cond, List, [], ◌∷◌, ◌++◌, length, Some, None, Option, ◌==◌, slice_index}
+use Rattle.std.specs.Prelude.{◌≡◌, ℕ, ◌+◌, ◌*◌, ◌/◌, ◌%◌, ◌<◌, cond, List, [], ◌∷◌, ◌++◌, length, Some, None, Option, ok_or, Result, Err, ◌==◌, slice_index}
 use Rattle.std.specs.Option.{option_map}
+use Rattle.fault.specs.declared.Fault.{Fault}
+use Rattle.fault.specs.declared.Fault.TheVariants.{Malformed, BadPacket}
 use Rattle.flow.specs.declared.key.FlowKey.{FlowKey}
 use Rattle.flow.specs.declared.key.Protocol.{Protocol}
 use Rattle.flow.specs.declared.key.Protocol.TheVariants.{Tcp, Udp}
@@ -30,6 +32,10 @@ abbrev pub key_of : List ℕ → Option FlowKey
 key_of bs = cond (length bs == 13)
     (option_map (λ p. record { src = be32 bs 0; dst = be32 bs 4; sport = be16 bs 8; dport = be16 bs 10; protocol = p }) (protocol_of (slice_index bs 12)))
     None
+
+-- the session of some bytes, or why they are none: there are not 13, or the protocol is another
+abbrev pub key_read : List ℕ → Result FlowKey Fault
+key_read bs = cond (length bs == 13) (ok_or (key_of bs) BadPacket) (Err Malformed)
 
 -- each field within its width, as in every FlowKey that code holds
 abbrev pub FitsKey : FlowKey → Type 0

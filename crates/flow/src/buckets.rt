@@ -9,7 +9,7 @@ use crate::sum::ones_sum;
 use fault::Fault;
 
 // How many buckets there are: a power of two from 16 to 65,536.
-#[derive(Clone, Copy)]
+#[derive(Clone, Copy, PartialEq, Eq, Debug)]
 pub struct Buckets {
     count: u32,
     ghost ok: { is_bucket_count count ≡ true },
@@ -47,16 +47,14 @@ impl FlowKey {
             (self.src >> 16) as u16,
             (self.src & 0xffff) as u16,
             self.sport,
-            u16::from(self.protocol.number()),
+            u16::from(u8::from(self.protocol)),
         );
         (u32::from(reverse_bits(sum)) % buckets.count) as u16
     }
 }
 
 // The bucket depends on source address, source port and protocol alone; with twice as many buckets each is split in two.
-pub fn bucket_laws() -> u8
+pub fn bucket_laws()
     ensures fields { SameFields }
     ensures doubled { Doubling }
-{
-    0
-}
+{}

@@ -1,30 +1,18 @@
 // The 13 bytes of a session in a message, high byte first.
 ghost use Rattle.std.specs.Prelude.{◌≡◌};
-ghost use Rattle.flow.specs.Bytes.{protocol_of, key_bytes, key_of, KeyRoundTrip};
+ghost use Rattle.flow.specs.Bytes.{key_bytes, key_read, KeyRoundTrip};
 
 use crate::key::{FlowKey, Protocol};
+use fault::Fault;
 
-impl Protocol {
-    // The protocol with this number in an IPv4 head.
-    pub fn from_number(number: u8) -> Option<Protocol>
-        ensures { result ≡ protocol_of number }
-    {
-        match number {
-            6 => Some(Protocol::Tcp),
-            17 => Some(Protocol::Udp),
-            _ => None,
-        }
-    }
-}
+impl From<FlowKey> for [u8; 13] {
+    ghost from_gives = { λ f bytes. bytes ≡ key_bytes f };
 
-impl FlowKey {
-    pub fn to_bytes(self) -> [u8; 13]
-        ensures { result ≡ key_bytes self }
-    {
-        let s = self.src.to_be_bytes();
-        let d = self.dst.to_be_bytes();
-        let a = self.sport.to_be_bytes();
-        let b = self.dport.to_be_bytes();
+    fn from(flow: FlowKey) -> [u8; 13] {
+        let s = flow.src.to_be_bytes();
+        let d = flow.dst.to_be_bytes();
+        let a = flow.sport.to_be_bytes();
+        let b = flow.dport.to_be_bytes();
         [
             s[0],
             s[1],
@@ -38,21 +26,23 @@ impl FlowKey {
             a[1],
             b[0],
             b[1],
-            self.protocol.number(),
+            u8::from(flow.protocol),
         ]
     }
+}
 
-    // None where there are not 13 bytes, or the protocol is another.
-    pub fn from_bytes(bytes: &[u8]) -> Option<FlowKey>
-        ensures { result ≡ key_of bytes.now }
-    {
+// Refused where there are not 13 bytes, or the protocol is another.
+impl TryFrom<&[u8]> for FlowKey {
+    type Error = Fault;
+
+    ghost try_from_gives = { λ bytes r. r ≡ key_read bytes.now };
+
+    fn try_from(bytes: &[u8]) -> Result<FlowKey, Fault> {
         let [s0, s1, s2, s3, d0, d1, d2, d3, a0, a1, b0, b1, protocol] = bytes else {
-            return None;
+            return Err(Fault::Malformed);
         };
-        let Some(protocol) = Protocol::from_number(*protocol) else {
-            return None;
-        };
-        Some(FlowKey {
+        let protocol = Protocol::try_from(*protocol)?;
+        Ok(FlowKey {
             src: u32::from_be_bytes([*s0, *s1, *s2, *s3]),
             dst: u32::from_be_bytes([*d0, *d1, *d2, *d3]),
             sport: u16::from_be_bytes([*a0, *a1]),
@@ -63,8 +53,6 @@ impl FlowKey {
 }
 
 // What was written is read again.
-pub fn key_round_trip() -> u8
+pub fn key_round_trip()
     ensures { KeyRoundTrip }
-{
-    0
-}
+{}

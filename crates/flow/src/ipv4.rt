@@ -6,7 +6,7 @@ use crate::key::{FlowKey, Protocol};
 use fault::Fault;
 
 // The session of a packet, and whether the packet may open it.
-#[derive(Clone, Copy)]
+#[derive(Clone, Copy, PartialEq, Eq, Debug)]
 pub struct Flow {
     pub key: FlowKey,
     pub opens: bool,
@@ -61,13 +61,14 @@ pub fn read(packet: &[u8]) -> Result<Flow, Fault>
     ensures { result ≡ read_spec packet.now }
 {
     let head = head_length(packet)?;
-    match packet[9] {
-        6 if packet.len() - head >= TCP => Ok(Flow {
-            key: key_at(packet, head, Protocol::Tcp),
+    let protocol = Protocol::try_from(packet[9])?;
+    match protocol {
+        Protocol::Tcp if packet.len() - head >= TCP => Ok(Flow {
+            key: key_at(packet, head, protocol),
             opens: opens_tcp(packet[head + 13]),
         }),
-        17 if packet.len() - head >= UDP => Ok(Flow {
-            key: key_at(packet, head, Protocol::Udp),
+        Protocol::Udp if packet.len() - head >= UDP => Ok(Flow {
+            key: key_at(packet, head, protocol),
             opens: true,
         }),
         _ => Err(Fault::BadPacket),

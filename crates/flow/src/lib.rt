@@ -7,3 +7,4 @@ pub mod ipv4;
 pub mod key;
 pub mod reverse;
 pub mod sum;
+pub mod text;

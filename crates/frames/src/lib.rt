@@ -1,96 +1,79 @@
 // The bytes on the wire of what is on its way in the stage.
 #![tactic(auto)]
 
-mod inside;
-
-use crate::inside::{tcp, udp};
-use chain::way::Packet;
+use chain::way::{Link, Packet};
 use fault::Error;
-use flow::key::Protocol;
+use packets::packet;
 use stage::message::Body;
 use std::alloc::Global;
 use wire::message::{Control, Head, Message};
 use wire_write::write;
 
 // A packet with its head in front; the packet inside has the flow's addresses and ports, and nothing to carry.
-fn packet_frame(heap: Global, bucket: u16, packet: Packet, out: &mut Vec<u8>) -> Result<(), Error> {
+fn packet_frame(heap: Global, bucket: u16, sent: Packet, out: &mut Vec<u8>) -> Result<(), Error> {
     let head = Head {
         bucket,
-        place: packet.at.place,
-        way: packet.way,
-        opens: packet.opens,
+        place: sent.at.place,
+        way: sent.way,
+        opens: sent.opens,
     };
-    let inside = match packet.flow.protocol {
-        Protocol::Tcp => tcp(heap, packet.flow, packet.opens)?,
-        Protocol::Udp => udp(heap, packet.flow)?,
-    };
+    let inside = packet(heap, sent.flow, sent.opens)?;
     write(
         Message::Packet {
             head,
-            flow: packet.flow,
+            flow: sent.flow,
             packet: inside.as_slice(),
         },
         out,
     )
 }
 
-fn packet_of(body: Body) -> Option<Packet> {
-    match body {
-        Body::Packet(packet) => Some(packet),
-        _ => None,
+fn stand(bucket: u16, place: Link, before: Link) -> Control {
+    Control::Stand {
+        bucket,
+        place: place.place,
+        before: Some(before),
     }
 }
 
-fn control_of(bucket: u16, body: Body) -> Option<Control> {
-    match body {
-        Body::Packet(_) => None,
-        Body::Stand { place, before } | Body::Stood { place, before } => Some(Control::Stand {
-            bucket,
-            place: place.place,
-            before: Some(before),
-        }),
-        Body::Behind { place, after } | Body::Told { place, after } => Some(Control::Behind {
-            bucket,
-            place: place.place,
-            after,
-        }),
-        Body::Door { link } | Body::Heard { link } => Some(Control::Door {
-            bucket,
-            newest: link,
-        }),
-        Body::Forgotten { place, after } | Body::Noted { place, after } => Some(
-            Control::Forgotten {
-                bucket,
-                place: place.place,
-                after,
-            },
-        ),
+fn behind(bucket: u16, place: Link, after: Link) -> Control {
+    Control::Behind {
+        bucket,
+        place: place.place,
+        after,
     }
 }
 
-fn is_answer(body: Body) -> bool {
-    matches!(
-        body,
-        Body::Stood { .. } | Body::Told { .. } | Body::Heard { .. } | Body::Noted { .. }
-    )
+fn door(bucket: u16, newest: Link) -> Control {
+    Control::Door { bucket, newest }
 }
 
-fn said<'a>(control: Control, answer: bool) -> Message<'a> {
-    if answer {
-        Message::Answer(control)
-    } else {
-        Message::Control(control)
+fn forgotten(bucket: u16, place: Link, after: Link) -> Control {
+    Control::Forgotten {
+        bucket,
+        place: place.place,
+        after,
     }
+}
+
+fn body_frame(heap: Global, bucket: u16, body: Body, out: &mut Vec<u8>) -> Result<(), Error> {
+    let message = match body {
+        Body::Packet(sent) => return packet_frame(heap, bucket, sent, out),
+        Body::Stand { place, before } => Message::Control(stand(bucket, place, before)),
+        Body::Stood { place, before } => Message::Answer(stand(bucket, place, before)),
+        Body::Behind { place, after } => Message::Control(behind(bucket, place, after)),
+        Body::Told { place, after } => Message::Answer(behind(bucket, place, after)),
+        Body::Door { link } => Message::Control(door(bucket, link)),
+        Body::Heard { link } => Message::Answer(door(bucket, link)),
+        Body::Forgotten { place, after } => Message::Control(forgotten(bucket, place, after)),
+        Body::Noted { place, after } => Message::Answer(forgotten(bucket, place, after)),
+    };
+    write(message, out)
 }
 
 // What goes over the wire for this message of the bucket.
 pub fn frame(heap: Global, bucket: u16, body: Body) -> Result<Vec<u8>, Error> {
     let mut out = Vec::new(heap);
-    if let Some(packet) = packet_of(body) {
-        packet_frame(heap, bucket, packet, &mut out)?;
-    }
-    if let Some(control) = control_of(bucket, body) {
-        write(said(control, is_answer(body)), &mut out)?;
-    }
+    body_frame(heap, bucket, body, &mut out)?;
     Ok(out)
 }

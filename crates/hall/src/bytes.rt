@@ -4,24 +4,12 @@ use fault::Error;
 use flow::buckets::Buckets;
 use flow::key::FlowKey;
 use frames::frame;
+use shown::text::HexText;
 use stage::event::Event;
 use stage::message::Body;
-use std::fmt;
 
 // Flows are spread over so many buckets.
 const BUCKETS: u32 = 4096;
-
-#[derive(Drop)]
-struct HexText<'a>(&'a [u8]);
-
-impl fmt::Display for HexText<'_> {
-    fn fmt<W: fmt::Write>(&self, f: &mut fmt::Formatter<W>) -> fmt::Result {
-        for byte in self.0 {
-            write!(f, "{byte:02x}")?;
-        }
-        Ok(())
-    }
-}
 
 #[derive(Clone, Copy)]
 pub struct Bytes {
@@ -61,7 +49,7 @@ impl Bytes {
                 Ok(())
             }
             Err(Error::Of(fault)) => {
-                println!(rt; "    no bytes: {}", fault.text())?;
+                println!(rt; "    no bytes: {fault}")?;
                 Ok(())
             }
             Err(Error::Memory) => Err(anyhow!("no memory")),

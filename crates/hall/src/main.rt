@@ -7,15 +7,14 @@ mod text;
 
 use crate::bytes::Bytes;
 use crate::houses::Houses;
-use crate::text::{EventText, LinkText, MessageText, PlaceText};
+use crate::text::{EventText, MessageText};
 use anyhow::anyhow;
-use chain::handover::Handover;
 use fault::Error;
 use script::command::Command;
-use script::flow_text::FlowText;
 use script::read::read_line;
+use shown::program::{answer, is_asked, print_title};
+use shown::text::{ChainText, LinkText, NumberText, PlaceText};
 use stage::stage::Stage;
-use std::env;
 
 const HELP: &str =
     "hall: plays one bucket, and the assignment of all buckets to houses, by a script on standard input
@@ -39,142 +38,121 @@ const HELP: &str =
 
 A bad line is answered with its number and the fault, and changes nothing.";
 
-fn show(rt: &HostRuntime, stage: &Stage) -> anyhow::Result<()> {
-    for place in stage.places() {
-        println!(rt; "  {}", PlaceText(*place))?;
-    }
-    for session in stage.sessions().as_slice() {
-        println!(rt;
-            "  table {} open at {}",
-            FlowText(session.flow),
-            LinkText(session.at)
-        )?;
-    }
-    for (i, known) in stage.known().iter().enumerate() {
-        println!(rt; "  door {i} knows {}", LinkText(*known))?;
-    }
-    show_office(rt, stage)?;
-    for message in stage.post().on_way() {
-        println!(rt; "  on its way {}", MessageText(*message))?;
-    }
-    Ok(())
+// What the script plays on, and what is printed of it.
+#[derive(Drop)]
+struct Player {
+    stage: Stage,
+    houses: Houses,
+    bytes: Bytes,
 }
 
-fn show_office(rt: &HostRuntime, stage: &Stage) -> anyhow::Result<()> {
-    print!(rt; "  office keeps")?;
-    for link in stage.chain().links() {
-        print!(rt; " {},", LinkText(*link))?;
+impl Player {
+    fn show(&self, rt: &HostRuntime) -> anyhow::Result<()> {
+        for place in self.stage.places() {
+            let text: PlaceText<NumberText> = PlaceText::from(*place);
+            println!(rt; "  {text}")?;
+        }
+        for session in self.stage.sessions().as_slice() {
+            println!(rt; "  table {} open at {}", session.flow, LinkText(session.at))?;
+        }
+        for (i, balancer) in self.stage.balancers().iter().enumerate() {
+            println!(rt; "  door {i} knows {}", LinkText(balancer.known))?;
+        }
+        let chain = ChainText {
+            links: self.stage.chain().links(),
+            handover: self.stage.chain().handover(),
+        };
+        println!(rt; "  {chain}")?;
+        for message in self.stage.post().on_way() {
+            println!(rt; "  on its way {}", MessageText(*message))?;
+        }
+        Ok(())
     }
-    match stage.chain().handover() {
-        Handover::Idle => println!(rt; " no change of hands")?,
-        Handover::AwaitStood(link) => println!(rt; " waits for {} to stand", LinkText(link))?,
-        Handover::AwaitTold(link) => println!(rt;
-            " waits for the newest to be told of {}",
-            LinkText(link)
-        )?,
-    }
-    Ok(())
-}
 
-// Faults are answered, want of memory ends the program.
-fn answer(rt: &HostRuntime, number: u64, error: Error) -> anyhow::Result<()> {
-    match error {
-        Error::Of(fault) => {
-            println!(rt;
-                "  line {number}: fault {}: {}",
-                fault.number(),
-                fault.text()
-            )?;
-            Ok(())
+    // A command about the assignment of all buckets.
+    fn play_houses(
+        &mut self,
+        rt: &HostRuntime,
+        number: u64,
+        command: Command,
+        line: &str,
+    ) -> anyhow::Result<()> {
+        match self.houses.play(rt.alloc(), command, line) {
+            Ok(change) => change.print(rt),
+            Err(error) => answer(rt, number, error),
         }
-        Error::Memory => Err(anyhow!("no memory")),
     }
-}
 
-fn play_line(
-    rt: &HostRuntime,
-    stage: &mut Stage,
-    houses: &mut Houses,
-    bytes: &mut Bytes,
-    number: u64,
-    line: &str,
-) -> anyhow::Result<()> {
-    let command = match read_line(line) {
-        Ok(Command::Nothing) => {
-            println!(rt; "{line}")?;
-            return Ok(());
+    // A command about the one bucket.
+    fn play_stage(
+        &mut self,
+        rt: &HostRuntime,
+        number: u64,
+        command: Command,
+    ) -> anyhow::Result<()> {
+        if let Err(error) = self.stage.play(command) {
+            return answer(rt, number, error);
         }
-        Ok(Command::Title) => {
-            let (_, text) = line.split_once("title").unwrap_or(("", ""));
-            println!(rt; "=={text} ==")?;
-            return Ok(());
+        for event in self.stage.seen() {
+            println!(rt; "  {}", EventText(*event))?;
+            self.bytes.print(rt, *event)?;
         }
-        Ok(command) => command,
-        Err(fault) => {
-            println!(rt; "> {line}")?;
-            return answer(rt, number, Error::Of(fault));
-        }
-    };
-    println!(rt; "> {line}")?;
-    match command {
-        Command::Buckets { .. } | Command::Servers | Command::Add { .. } | Command::Remove { .. } =>
-            {
-                return match houses.play(rt.alloc(), command, line) {
-                    Ok(change) => change.print(rt),
-                    Err(error) => answer(rt, number, error),
-                };
+        match command {
+            Command::Show => self.show(rt),
+            Command::Bytes { shown } => {
+                self.bytes.shown = shown;
+                Ok(())
             }
-        _ => {}
-    }
-    if let Err(error) = stage.play(command) {
-        return answer(rt, number, error);
-    }
-    for event in stage.seen() {
-        println!(rt; "  {}", EventText(*event))?;
-        bytes.print(rt, *event)?;
-    }
-    match command {
-        Command::Show => show(rt, stage),
-        Command::Bytes { shown } => {
-            bytes.shown = shown;
-            Ok(())
+            _ => Ok(()),
         }
-        _ => Ok(()),
+    }
+
+    fn play_line(&mut self, rt: &HostRuntime, number: u64, line: &str) -> anyhow::Result<()> {
+        match read_line(line) {
+            Ok(Command::Nothing) => {
+                println!(rt; "{line}")?;
+                Ok(())
+            }
+            Ok(Command::Title) => print_title(rt, line),
+            Ok(
+                command @ (Command::Buckets { .. }
+                | Command::Servers
+                | Command::Add { .. }
+                | Command::Remove { .. }),
+            ) => {
+                println!(rt; "> {line}")?;
+                self.play_houses(rt, number, command, line)
+            }
+            Ok(command) => {
+                println!(rt; "> {line}")?;
+                self.play_stage(rt, number, command)
+            }
+            Err(fault) => {
+                println!(rt; "> {line}")?;
+                answer(rt, number, Error::Of(fault))
+            }
+        }
     }
 }
 
 fn play(rt: &HostRuntime) -> anyhow::Result<()> {
-    let Ok(mut stage) = Stage::new(rt.alloc(), 3, 2, 65_536) else {
+    let Ok(stage) = Stage::new(rt.alloc(), 3, 2, 65_536) else {
         return Err(anyhow!("no memory"));
     };
-    let mut houses = Houses::new();
-    let mut bytes = Bytes::new();
-    let mut number = 0u64;
-    for line in rt.lines(rt.alloc()) {
-        let line = line?;
-        number = number.wrapping_add(1);
-        play_line(
-            rt,
-            &mut stage,
-            &mut houses,
-            &mut bytes,
-            number,
-            line.as_str(),
-        )?;
+    let mut player = Player {
+        stage,
+        houses: Houses::new(),
+        bytes: Bytes::new(),
+    };
+    for (number, line) in (1..u64::MAX).zip(rt.lines(rt.alloc())) {
+        player.play_line(rt, number, line?.as_str())?;
     }
     Ok(())
 }
 
-fn run(rt: &HostRuntime) -> anyhow::Result<()> {
-    for arg in env::args(rt)?.skip(1) {
-        if arg.as_str() == "--help" {
-            println!(rt; "{HELP}")?;
-            return Ok(());
-        }
-    }
-    play(rt)
-}
-
 fn main(rt: HostRuntime) -> anyhow::Result<()> {
-    run(&rt)
+    if is_asked(&rt, HELP)? {
+        return Ok(());
+    }
+    play(&rt)
 }

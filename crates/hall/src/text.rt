@@ -1,56 +1,11 @@
-// What is printed of places, messages and events. Here a server is a house, a balancer a door, the controller the office, a session a table.
-use chain::place::{Place, Standing};
-use chain::way::{Link, Packet, Way};
-use fault::Refusal;
-use script::flow_text::FlowText;
+// What is printed of messages and events. Here a server is a house, a balancer a door, the controller the office, a session a table.
+use chain::way::Packet;
+use shown::text::{LinkText, PacketText};
 use stage::event::Event;
 use stage::message::{Body, Machine, Message};
 use std::fmt;
 
-#[derive(Drop)]
-pub struct LinkText(pub Link);
-
-impl fmt::Display for LinkText {
-    fn fmt<W: fmt::Write>(&self, f: &mut fmt::Formatter<W>) -> fmt::Result {
-        write!(f, "place {} of house {}", self.0.place, self.0.server)
-    }
-}
-
-#[derive(Drop)]
-struct NeighbourText(Option<Link>);
-
-impl fmt::Display for NeighbourText {
-    fn fmt<W: fmt::Write>(&self, f: &mut fmt::Formatter<W>) -> fmt::Result {
-        match self.0 {
-            Some(link) => write!(f, "{}", link.place),
-            None => f.write_str("none"),
-        }
-    }
-}
-
-#[derive(Drop)]
-pub struct PlaceText(pub Place);
-
-impl fmt::Display for PlaceText {
-    fn fmt<W: fmt::Write>(&self, f: &mut fmt::Formatter<W>) -> fmt::Result {
-        let here = LinkText(self.0.link);
-        match self.0.standing {
-            Standing::Never => write!(f, "{here} does not stand yet"),
-            Standing::Stands { before, after } => write!(
-                f,
-                "{here} stands, before it {}, after it {}",
-                NeighbourText(before),
-                NeighbourText(after)
-            ),
-            Standing::Forgotten { after } => write!(
-                f,
-                "{here} is forgotten, after it {}",
-                after.place
-            ),
-        }
-    }
-}
-
+// The stage has machines of a type of its own, three kinds of them: the network prints five of another, and a conversion is no shorter than this.
 #[derive(Drop)]
 struct MachineText(Machine);
 
@@ -65,37 +20,28 @@ impl fmt::Display for MachineText {
 }
 
 #[derive(Drop)]
-struct PacketText(Packet);
-
-impl fmt::Display for PacketText {
-    fn fmt<W: fmt::Write>(&self, f: &mut fmt::Formatter<W>) -> fmt::Result {
-        let packet = self.0;
-        write!(
-            f,
-            "packet {} to place {}, ",
-            FlowText(packet.flow),
-            packet.at.place
-        )?;
-        match packet.way {
-            Way::Up => f.write_str("up")?,
-            Way::Down(by) => write!(f, "down for place {}", by.place)?,
-            Way::Asked(by) => write!(f, "asked by place {}", by.place)?,
-        }
-        if packet.opens {
-            f.write_str(", may open")
-        } else {
-            Ok(())
-        }
-    }
-}
-
-#[derive(Drop)]
 struct BodyText(Body);
 
 impl fmt::Display for BodyText {
     fn fmt<W: fmt::Write>(&self, f: &mut fmt::Formatter<W>) -> fmt::Result {
         match self.0 {
-            Body::Packet(packet) => write!(f, "{}", PacketText(packet)),
+            Body::Packet(
+                Packet {
+                    flow,
+                    opens,
+                    at,
+                    way,
+                },
+            ) => {
+                let place = at.place;
+                let text = PacketText {
+                    flow,
+                    place,
+                    way,
+                    opens,
+                };
+                write!(f, "{text}")
+            }
             Body::Stand { place, before } => {
                 write!(
                     f,
@@ -156,13 +102,6 @@ impl fmt::Display for MessageText {
     }
 }
 
-fn refusal_text(refusal: Refusal) -> &'static str {
-    match refusal {
-        Refusal::Nobody => "nobody has the table",
-        Refusal::For(fault) => fault.text(),
-    }
-}
-
 #[derive(Drop)]
 pub struct EventText(pub Event);
 
@@ -179,41 +118,23 @@ impl fmt::Display for EventText {
                 )
             }
             Event::Lost(message) => write!(f, "lost {}", message.number),
-            Event::Delivered { at, flow } => write!(
-                f,
-                "given {} at {}",
-                FlowText(flow),
-                LinkText(at)
-            ),
+            Event::Delivered { at, flow } => write!(f, "given {flow} at {}", LinkText(at)),
             Event::Opened { at, flow } => {
-                write!(
-                    f,
-                    "given {} at {}, opened now",
-                    FlowText(flow),
-                    LinkText(at)
-                )
+                write!(f, "given {flow} at {}, opened now", LinkText(at))
             }
             Event::Refused { at, flow, refusal } => write!(
                 f,
-                "refused {} {} at {}: {}",
-                refusal.number(),
-                FlowText(flow),
-                LinkText(at),
-                refusal_text(refusal)
-            ),
-            Event::Dropped => f.write_str("dropped, as if lost"),
-            Event::Contradicted(fault) => write!(f, "refused {}: {}", fault.number(), fault.text()),
-            Event::Ignored => f.write_str("nothing changes"),
-            Event::Closed { at, flow } => write!(
-                f,
-                "closed {} at {}",
-                FlowText(flow),
+                "refused {} {flow} at {}: {refusal}",
+                u8::from(refusal),
                 LinkText(at)
             ),
+            Event::Dropped => f.write_str("dropped, as if lost"),
+            Event::Contradicted(fault) => write!(f, "refused {}: {fault}", u8::from(fault)),
+            Event::Ignored => f.write_str("nothing changes"),
+            Event::Closed { at, flow } => write!(f, "closed {flow} at {}", LinkText(at)),
             Event::Idle { at, flow } => write!(
                 f,
-                "closed {} at {}, an hour without a packet",
-                FlowText(flow),
+                "closed {flow} at {}, an hour without a packet",
                 LinkText(at)
             ),
             Event::NotOpen => f.write_str("no such table is open"),

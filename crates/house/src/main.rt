@@ -2,10 +2,10 @@
 #![tactic(auto)]
 
 use chain::place::Outcome;
-use console::{answer, assign, is_asked, print, print_packet, stop};
+use console::{Fed, assign, run};
 use edge::post::Post;
 use fault::{Error, Fault};
-use lines::read::read_line;
+use lines::kept::Line;
 use server::kept::Server;
 use settings::kept::Settings;
 use std::alloc::Global;
@@ -30,83 +30,46 @@ A line that cannot be read is answered with its fault, and changes nothing.";
 // How long the head of a packet between machines is.
 const HEAD: usize = 16;
 
-fn begin(heap: Global, settings: &Settings) -> Result<Server, Error> {
-    let Some(number) = settings.server else {
-        return Err(Error::Of(Fault::Malformed));
-    };
-    let Ok(number) = u8::try_from(number) else {
-        return Err(Error::Of(Fault::NoSuch));
-    };
-    let (buckets, roster) = assign(heap, settings)?;
-    Server::new(heap, number, buckets, roster.assignment())
+#[derive(Drop)]
+struct House {
+    server: Server,
 }
 
-// A packet that was delivered, or that opened its session, is printed as the session gets it.
-fn give(rt: &HostRuntime, outcome: Option<Outcome>, bytes: &[u8]) -> anyhow::Result<()> {
-    match outcome {
-        Some(Outcome::Delivered | Outcome::Opened) if bytes.len() >= HEAD => {
-            print_packet(rt, &bytes[HEAD..bytes.len()])
-        }
-        _ => Ok(()),
-    }
-}
+impl Fed for House {
+    const NAME: &'static str = "house";
 
-// One line of bytes: what comes of it is printed.
-fn hear(rt: &HostRuntime, server: &mut Server, number: u64, text: &[u8]) -> anyhow::Result<()> {
-    let mut line = match read_line(rt.alloc(), text) {
-        Ok(line) => line,
-        Err(error) => return answer(rt, number, error),
-    };
-    let mut post = Post::new(rt.alloc());
-    match server_edge::hear(
-        server,
-        rt.alloc(),
-        line.machine,
-        line.bytes.as_mut_slice(),
-        &mut post,
-    ) {
-        Ok(outcome) => {
-            give(rt, outcome, line.bytes.as_slice())?;
-            print(rt, &post)
-        }
-        Err(error) => answer(rt, number, error),
-    }
-}
+    const HELP: &'static str = HELP;
 
-fn play(rt: &HostRuntime) -> anyhow::Result<()> {
-    let heap = rt.alloc();
-    let mut settings = Settings::new(heap);
-    let mut running: Option<Server> = None;
-    let mut number = 0u64;
-    for line in rt.lines(heap) {
-        let line = line?;
-        number = number.wrapping_add(1);
-        if let Some(server) = &mut running {
-            hear(rt, server, number, line.as_bytes())?;
-            continue;
-        }
-        match settings.take(heap, line.as_bytes()) {
-            Ok(false) => {}
-            Ok(true) => match begin(heap, &settings) {
-                Ok(server) => running = Some(server),
-                Err(error) => return Err(stop(heap, number, error)),
-            },
-            Err(error) => return Err(stop(heap, number, error)),
-        }
+    fn begin(heap: Global, settings: &Settings) -> Result<House, Error> {
+        let number = settings.server.ok_or(Fault::Malformed)?;
+        let number = u8::try_from(number).map_err(|_| Fault::NoSuch)?;
+        let (buckets, roster) = assign(heap, settings)?;
+        let server = Server::new(heap, number, buckets, roster.assignment())?;
+        Ok(House { server })
     }
-    if running.is_none() {
-        return Err(stop(heap, number.wrapping_add(1), Error::Of(Fault::Malformed)));
-    }
-    Ok(())
-}
 
-fn run(rt: &HostRuntime) -> anyhow::Result<()> {
-    if is_asked(rt, "house", HELP)? {
-        return Ok(());
+    // A packet that was delivered, or that opened its session, is given as the session gets it.
+    fn hear<'a>(
+        &mut self,
+        heap: Global,
+        line: &'a mut Line,
+        post: &mut Post,
+    ) -> Result<Option<&'a [u8]>, Error> {
+        let machine = line.machine;
+        let outcome = server_edge::hear(
+            &mut self.server,
+            heap,
+            machine,
+            line.bytes.as_mut_slice(),
+            post,
+        )?;
+        match outcome {
+            Some(Outcome::Delivered | Outcome::Opened) => Ok(line.bytes.as_slice().get(HEAD..)),
+            _ => Ok(None),
+        }
     }
-    play(rt)
 }
 
 fn main(rt: HostRuntime) -> anyhow::Result<()> {
-    run(&rt)
+    run::<House>(&rt)
 }

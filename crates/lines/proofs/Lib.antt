@@ -1,3 +1,3 @@
-pub mod Parts
+pub mod Pairs
 pub mod Texts
 pub mod Back

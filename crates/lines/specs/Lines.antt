@@ -1,6 +1,7 @@
 -- A line of text that names a machine and has bytes in hex. Assumes nothing.
-use Rattle.std.specs.Prelude.{◌≡◌, ℕ, ◌+◌, ◌-◌, ◌*◌, ◌/◌, ◌%◌, cond, ◌&&◌, List, [], ◌∷◌, ◌++◌, Some, None, Ok, Err, vec_items, codes, Option, Result, Vec, nat_le, nat_lt}
+use Rattle.std.specs.Prelude.{◌≡◌, ℕ, ◌+◌, ◌-◌, ◌*◌, ◌/◌, ◌%◌, cond, ◌&&◌, List, [], ◌∷◌, ◌++◌, Some, None, Ok, Err, vec_items, codes, Option, Result, Vec, nat_le, nat_lt, ◌==◌, length, slice_index, flat_map}
 use Rattle.std.specs.Borrow.{Bor}
+use Rattle.std.specs.Fmt.{decimal}
 use Rattle.std.specs.Str.{bytes_eq}
 use Rattle.std.specs.declared.alloc.Global.{Global}
 use Rattle.fault.specs.declared.Fault.{Fault}
@@ -10,7 +11,6 @@ use Rattle.fault.specs.declared.Error.TheVariants.{Of, Memory}
 use Rattle.machine.specs.declared.name.Machine.{Machine}
 use Rattle.machine.specs.declared.name.Machine.TheVariants.{Client, Operator, Balancer, Server, Controller}
 use Rattle.words.specs.Words.{word_of, rest_of, after_space, numeral}
-use Rattle.lines.specs.declared.kept.Hex.{Hex}
 use Rattle.lines.specs.declared.kept.Line.{Line}
 
 -- THE MACHINE
@@ -31,21 +31,31 @@ behind (Some rest) = numbered (numeral (word_of rest)) (rest_of rest)
 abbrev pub number_in : List ℕ → Result (ℕ × List ℕ) Fault
 number_in rest = behind (after_space rest)
 
-abbrev pub balancer_as : Result (ℕ × List ℕ) Fault → Named
-balancer_as (Ok p) = cond (nat_lt p.0 65536) (Ok (Balancer p.0, p.1)) (Err NoSuch)
-balancer_as (Err f) = Err f
+abbrev pub balancer : ℕ → Result Machine Fault
+balancer n = cond (nat_lt n 65536) (Ok (Balancer n)) (Err NoSuch)
 
-abbrev pub server_as : Result (ℕ × List ℕ) Fault → Named
-server_as (Ok p) = cond (nat_lt p.0 256) (Ok (Server p.0, p.1)) (Err NoSuch)
-server_as (Err f) = Err f
+abbrev pub server : ℕ → Result Machine Fault
+server n = cond (nat_lt n 256) (Ok (Server n)) (Err NoSuch)
+
+abbrev pub before : Result Machine Fault → List ℕ → Named
+before (Ok m) rest = Ok (m, rest)
+before (Err f) rest = Err f
+
+abbrev pub by_number : (ℕ → Result Machine Fault) → Result (ℕ × List ℕ) Fault → Named
+by_number machine (Ok p) = before (machine p.0) p.1
+by_number machine (Err f) = Err f
+
+-- the machines that have no number
+abbrev pub lone : List ℕ → Result Machine Fault
+lone word =
+    cond (bytes_eq word (codes "client")) (Ok Client)
+    (cond (bytes_eq word (codes "order")) (Ok Operator)
+    (cond (bytes_eq word (codes "office")) (Ok Controller) (Err Malformed)))
 
 abbrev pub by_word : List ℕ → List ℕ → Named
 by_word word rest =
-    cond (bytes_eq word (codes "client")) (Ok (Client, rest))
-    (cond (bytes_eq word (codes "order")) (Ok (Operator, rest))
-    (cond (bytes_eq word (codes "office")) (Ok (Controller, rest))
-    (cond (bytes_eq word (codes "door")) (balancer_as (number_in rest))
-    (cond (bytes_eq word (codes "house")) (server_as (number_in rest)) (Err Malformed)))))
+    cond (bytes_eq word (codes "door")) (by_number balancer (number_in rest))
+    (cond (bytes_eq word (codes "house")) (by_number server (number_in rest)) (before (lone word) rest))
 
 abbrev pub machine_in : List ℕ → Named
 machine_in line = by_word (word_of line) (rest_of line)
@@ -58,45 +68,28 @@ hex_digit c =
     (cond (nat_le 97 c && nat_le c 102) (Some (c - 87))
     (cond (nat_le 65 c && nat_le c 70) (Some (c - 55)) None))
 
--- done: the bytes read. half: the first digit of the next, if that is read
-pub record Part : Type 0 where
-  pub done : List ℕ
-  pub half : Option ℕ
+abbrev pub byte_of : Option ℕ → Option ℕ → Result ℕ Fault
+byte_of None low = Err Malformed
+byte_of (Some h) None = Err Malformed
+byte_of (Some h) (Some l) = Ok (h * 16 + l)
 
-abbrev pub part_of : Hex → Part
-part_of h = record { done = vec_items h.done; half = h.half }
+-- two digits; no digit stands alone
+abbrev pub byte_in : List ℕ → Result ℕ Fault
+byte_in digits = cond (length digits == 2) (byte_of (hex_digit (slice_index digits 0)) (hex_digit (slice_index digits 1))) (Err Malformed)
 
-abbrev pub with_digit : Part → Option ℕ → ℕ → Part
-with_digit p None d = record { done = p.done; half = Some d }
-with_digit p (Some h) d = record { done = p.done ++ (h % 16 * 16 + d) ∷ []; half = None }
-
-abbrev pub digit_to : Part → Option ℕ → Result Part Fault
-digit_to p None = Err Malformed
-digit_to p (Some d) = Ok (with_digit p p.half d)
-
--- one digit more
-abbrev pub next_digit : ℕ → Part → Result Part Fault
-next_digit c p = digit_to p (hex_digit c)
-
--- at the end no digit stands alone
-abbrev pub whole : Part → Option ℕ → Result (List ℕ) Fault
-whole p None = Ok p.done
-whole p (Some h) = Err Malformed
-
-abbrev pub onward : (Part → Result (List ℕ) Fault) → Result Part Fault → Result (List ℕ) Fault
-onward go (Ok p) = go p
+abbrev pub onward : (ℕ → Result (List ℕ) Fault) → Result ℕ Fault → Result (List ℕ) Fault
+onward go (Ok b) = go b
 onward go (Err f) = Err f
 
-unfoldable pub bytes_from : Part → List ℕ → Result (List ℕ) Fault
-bytes_from p [] = whole p p.half
-bytes_from p (c ∷ cs) = onward (λ q. bytes_from q cs) (next_digit c p)
-
-abbrev pub unread : Part
-unread = record { done = []; half = None }
+-- the bytes so far, and those in the digits that are left
+unfoldable pub bytes_from : List ℕ → List ℕ → Result (List ℕ) Fault
+bytes_from done [] = Ok done
+bytes_from done (c ∷ []) = Err Malformed
+bytes_from done (c ∷ d ∷ cs) = onward (λ b. bytes_from (done ++ b ∷ []) cs) (byte_of (hex_digit c) (hex_digit d))
 
 abbrev pub bytes_after : Option (List ℕ) → Result (List ℕ) Fault
 bytes_after None = Err Malformed
-bytes_after (Some digits) = bytes_from unread digits
+bytes_after (Some digits) = bytes_from [] digits
 
 -- a space and digits
 abbrev pub bytes_in : List ℕ → Result (List ℕ) Fault
@@ -121,21 +114,8 @@ line_in line = bytes_of (machine_in line)
 abbrev pub hex_of : ℕ → ℕ
 hex_of d = cond (nat_lt d 10) (48 + d) (87 + d)
 
-unfoldable pub hex_text : List ℕ → List ℕ
-hex_text [] = []
-hex_text (b ∷ bs) = hex_of (b / 16) ∷ hex_of (b % 16) ∷ hex_text bs
-
-abbrev pub digit : ℕ → ℕ
-digit n = 48 + n % 10
-
--- a number below 100,000 in decimal, without zeros in front
-abbrev pub decimal : ℕ → List ℕ
-decimal n =
-    cond (nat_lt n 10) (digit n ∷ [])
-    (cond (nat_lt n 100) (digit (n / 10) ∷ digit n ∷ [])
-    (cond (nat_lt n 1000) (digit (n / 10 / 10) ∷ digit (n / 10) ∷ digit n ∷ [])
-    (cond (nat_lt n 10000) (digit (n / 10 / 10 / 10) ∷ digit (n / 10 / 10) ∷ digit (n / 10) ∷ digit n ∷ [])
-    (digit (n / 10 / 10 / 10 / 10) ∷ digit (n / 10 / 10 / 10) ∷ digit (n / 10 / 10) ∷ digit (n / 10) ∷ digit n ∷ []))))
+abbrev pub hex_text : List ℕ → List ℕ
+hex_text = flat_map (λ b. hex_of (b / 16) ∷ hex_of (b % 16) ∷ [])
 
 abbrev pub name_text : Machine → List ℕ
 name_text Client = codes "client"
@@ -157,14 +137,6 @@ packet_text packet = codes "table " ++ hex_text packet
 abbrev pub shown : {A : Type 0} → Result (A × Bor (List ℕ)) Fault → Result (A × List ℕ) Fault
 shown (Ok p) = Ok (p.0, p.1.now)
 shown (Err f) = Err f
-
-abbrev pub Parts : Result Part Fault → Result (Unit {0}) Error → Part → Type 0
-Parts (Ok p) (Ok u) after = after ≡ p
-Parts (Ok p) (Err Memory) after = Unit {0}
-Parts (Ok p) (Err (Of g)) after = ⊥
-Parts (Err f) (Ok u) after = ⊥
-Parts (Err f) (Err Memory) after = ⊥
-Parts (Err f) (Err (Of g)) after = g ≡ f
 
 abbrev pub Reads : Result (List ℕ) Fault → Result (Vec ℕ Global) Error → Type 0
 Reads (Ok bs) (Ok v) = vec_items v ≡ bs

@@ -1,55 +1,50 @@
 // Bytes in hex, two digits each.
-ghost use Rattle.std.specs.Prelude.{◌≡◌, ◌<◌, IfSome};
-ghost use Rattle.lines.specs.Lines.{hex_digit, part_of, next_digit, unread, bytes_from, Parts, Reads};
+ghost use Rattle.std.specs.Prelude.{◌≡◌, ◌<◌, [], ◌++◌, ok_or, IfOk, OnOk};
+ghost use Rattle.std.specs.String.{string_bytes};
+ghost use Rattle.fault.specs.declared.Fault.TheVariants.{Malformed};
+ghost use Rattle.lines.specs.Lines.{hex_digit, byte_in, bytes_from, hex_text, Reads};
 
-use crate::kept::Hex;
 use fault::{Error, Fault};
-use std::alloc::Global;
+use std::alloc::{AllocError, Global};
+use std::fmt::Write;
 
-fn digit(c: u8) -> Option<u8>
-    ensures value { result ≡ hex_digit c }
-    ensures below { IfSome result (λ d. d < 16) }
+pub fn push_hex(bytes: &[u8], out: &mut String) -> Result<(), AllocError>
+    ensures { OnOk result (string_bytes out.new ≡ string_bytes out.old ++ hex_text bytes.now) }
+{
+    for byte in bytes {
+        write!(out, "{byte:02x}")?;
+    }
+    Ok(())
+}
+
+// Read here and not by the library `hex`, since an edit that reads another digit has to be refused.
+fn digit(c: u8) -> Result<u8, Fault>
+    ensures value { result ≡ ok_or (hex_digit c) Malformed }
+    ensures below { IfOk result (λ d. d < 16) }
 {
     match c {
-        48..=57 => Some(c - 48),
-        97..=102 => Some(c - 87),
-        65..=70 => Some(c - 55),
-        _ => None,
+        b'0'..=b'9' => Ok(c - b'0'),
+        b'a'..=b'f' => Ok(c - b'a' + 10),
+        b'A'..=b'F' => Ok(c - b'A' + 10),
+        _ => Err(Fault::Malformed),
     }
 }
 
-impl Hex {
-    fn next(&mut self, c: u8) -> Result<(), Error>
-        ensures { Parts (next_digit c (part_of self.old)) result (part_of self.new) }
-    {
-        let Some(digit) = digit(c) else {
-            return Err(Error::Of(Fault::Malformed));
-        };
-        match self.half {
-            None => self.half = Some(digit),
-            Some(half) => {
-                self.done.push(half % 16 * 16 + digit)?;
-                self.half = None;
-            }
-        }
-        Ok(())
-    }
+fn byte(digits: &[u8]) -> Result<u8, Fault>
+    ensures { result ≡ byte_in digits.now }
+{
+    let [high, low] = digits else {
+        return Err(Fault::Malformed);
+    };
+    Ok(digit(*high)? * 16 + digit(*low)?)
+}
 
-    pub fn read(heap: Global, digits: &[u8]) -> Result<Vec<u8>, Error>
-        ensures { Reads (bytes_from unread digits.now) result }
-    {
-        let mut hex = Hex {
-            done: Vec::new(heap),
-            half: None,
-        };
-        for c in digits {
-            if let Err(error) = hex.next(*c) {
-                return Err(error);
-            }
-        }
-        if hex.half.is_some() {
-            return Err(Error::Of(Fault::Malformed));
-        }
-        Ok(hex.done)
+pub fn read_hex(heap: Global, digits: &[u8]) -> Result<Vec<u8>, Error>
+    ensures { Reads (bytes_from [] digits.now) result }
+{
+    let mut bytes = Vec::new(heap);
+    for pair in digits.chunks(2) {
+        bytes.push(byte(pair)?)?;
     }
+    Ok(bytes)
 }

@@ -1,68 +1,80 @@
 // The machine that a line names: `client`, `order`, `office`, `door N` or `house N`.
-ghost use Rattle.std.specs.Prelude.{◌≡◌};
-ghost use Rattle.lines.specs.Lines.{number_in, balancer_as, server_as, by_word, shown};
+ghost use Rattle.std.specs.Prelude.{◌≡◌, Some};
+ghost use Rattle.lines.specs.Lines.{number_in, balancer, server, lone, by_word, name_text, shown};
 
 use fault::Fault;
 use machine::name::Machine;
-use words::{after_space, is, number, split_word};
+use std::fmt;
+use words::{after_space, number, split_word};
 
-// So many servers can be, and so many balancers.
-const SERVERS: u32 = 256;
+// A machine that is printed by its name.
+#[derive(Clone, Copy)]
+pub(crate) struct Name(pub(crate) Machine);
 
-const BALANCERS: u32 = 65536;
+impl fmt::Display for Name {
+    ghost output = { λ name. Some (name_text name.0) };
+
+    fn fmt<W: fmt::Write>(&self, f: &mut fmt::Formatter<W>) -> fmt::Result {
+        match self.0 {
+            Machine::Client => f.write_str("client"),
+            Machine::Operator => f.write_str("order"),
+            Machine::Balancer(number) => write!(f, "door {number}"),
+            Machine::Server(number) => write!(f, "house {number}"),
+            Machine::Controller => f.write_str("office"),
+        }
+    }
+}
 
 // A space, a number, and what is behind it.
 fn read_number(rest: &[u8]) -> Result<(u32, &[u8]), Fault>
     ensures { shown result ≡ number_in rest.now }
 {
-    let Some(rest) = after_space(rest) else {
-        return Err(Fault::Malformed);
-    };
+    let rest = after_space(rest).ok_or(Fault::Malformed)?;
     let (digits, rest) = split_word(rest);
-    match number(digits) {
-        Some(n) => Ok((n, rest)),
-        None => Err(Fault::Malformed),
-    }
+    let n = number(digits).ok_or(Fault::Malformed)?;
+    Ok((n, rest))
 }
 
-fn read_balancer(rest: &[u8]) -> Result<(Machine, &[u8]), Fault>
-    ensures { shown result ≡ balancer_as (number_in rest.now) }
+// One generic function for this and the next would be longer than both.
+fn balancer(n: u32) -> Result<Machine, Fault>
+    ensures { result ≡ balancer n }
 {
-    let (n, rest) = read_number(rest)?;
-    if n >= BALANCERS {
-        return Err(Fault::NoSuch);
-    }
-    Ok((Machine::Balancer(n as u16), rest))
+    let number = u16::try_from(n).map_err(|_| Fault::NoSuch)?;
+    Ok(Machine::Balancer(number))
 }
 
-fn read_server(rest: &[u8]) -> Result<(Machine, &[u8]), Fault>
-    ensures { shown result ≡ server_as (number_in rest.now) }
+fn server(n: u32) -> Result<Machine, Fault>
+    ensures { result ≡ server n }
 {
-    let (n, rest) = read_number(rest)?;
-    if n >= SERVERS {
-        return Err(Fault::NoSuch);
+    let number = u8::try_from(n).map_err(|_| Fault::NoSuch)?;
+    Ok(Machine::Server(number))
+}
+
+// The machines that have no number.
+fn lone(word: &[u8]) -> Result<Machine, Fault>
+    ensures { result ≡ lone word.now }
+{
+    match word {
+        b"client" => Ok(Machine::Client),
+        b"order" => Ok(Machine::Operator),
+        b"office" => Ok(Machine::Controller),
+        _ => Err(Fault::Malformed),
     }
-    Ok((Machine::Server(n as u8), rest))
 }
 
 // By the first word, the machine and what is behind its name.
 pub fn read_machine<'a>(word: &[u8], rest: &'a [u8]) -> Result<(Machine, &'a [u8]), Fault>
     ensures { shown result ≡ by_word word.now rest.now }
 {
-    if is(word, b"client") {
-        return Ok((Machine::Client, rest));
+    match word {
+        b"door" => {
+            let (n, rest) = read_number(rest)?;
+            Ok((balancer(n)?, rest))
+        }
+        b"house" => {
+            let (n, rest) = read_number(rest)?;
+            Ok((server(n)?, rest))
+        }
+        _ => Ok((lone(word)?, rest)),
     }
-    if is(word, b"order") {
-        return Ok((Machine::Operator, rest));
-    }
-    if is(word, b"office") {
-        return Ok((Machine::Controller, rest));
-    }
-    if is(word, b"door") {
-        return read_balancer(rest);
-    }
-    if is(word, b"house") {
-        return read_server(rest);
-    }
-    Err(Fault::Malformed)
 }

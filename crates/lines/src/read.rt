@@ -2,7 +2,8 @@
 ghost use Rattle.std.specs.Prelude.{◌≡◌};
 ghost use Rattle.lines.specs.Lines.{bytes_in, line_in, Reads, ReadsLine};
 
-use crate::kept::{Hex, Line};
+use crate::hex::read_hex;
+use crate::kept::Line;
 use crate::name::read_machine;
 use fault::{Error, Fault};
 use std::alloc::Global;
@@ -11,10 +12,8 @@ use words::{after_space, split_word};
 fn read_bytes(heap: Global, rest: &[u8]) -> Result<Vec<u8>, Error>
     ensures { Reads (bytes_in rest.now) result }
 {
-    let Some(digits) = after_space(rest) else {
-        return Err(Error::Of(Fault::Malformed));
-    };
-    Hex::read(heap, digits)
+    let digits = after_space(rest).ok_or(Fault::Malformed)?;
+    read_hex(heap, digits)
 }
 
 pub fn read_line(heap: Global, line: &[u8]) -> Result<Line, Error>

@@ -20,8 +20,6 @@ pub fn aged(age: u8, ticks: u32) -> u8
 }
 
 // An order of many ticks is as many steps of one tick, but for what is said several times in it, which is said once.
-pub fn ticks_add() -> u8
+pub fn ticks_add()
     ensures { StepsAdd }
-{
-    0
-}
+{}

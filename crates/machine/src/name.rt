@@ -1,6 +1,6 @@
 // Who says something, and who hears it.
 
-#[derive(Clone, Copy)]
+#[derive(Clone, Copy, PartialEq, Eq, Debug)]
 pub enum Machine {
     // Whoever sends packets from outside.
     Client,

@@ -2,7 +2,7 @@
 use crate::name::Machine;
 use wire::message::Control;
 
-#[derive(Clone, Copy)]
+#[derive(Clone, Copy, PartialEq, Eq, Debug)]
 pub enum Note {
     Say(Control),
     // The same message, said back to whoever said it.
@@ -11,7 +11,7 @@ pub enum Note {
     PutOff(u16),
 }
 
-#[derive(Clone, Copy)]
+#[derive(Clone, Copy, PartialEq, Eq, Debug)]
 pub struct Sent {
     pub to: Machine,
     pub note: Note,

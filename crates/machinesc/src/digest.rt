@@ -25,6 +25,10 @@ struct Sum {
 }
 
 impl Sum {
+    fn new() -> Sum {
+        Sum { value: START }
+    }
+
     fn bytes(&mut self, bytes: &[u8]) {
         for byte in bytes {
             self.value = (self.value ^ u64::from(*byte)).wrapping_mul(FACTOR);
@@ -37,11 +41,7 @@ impl Sum {
 
     // A link, or zeros for none.
     fn link(&mut self, link: Option<Link>) {
-        let nobody = Link {
-            place: 0,
-            server: 0,
-        };
-        let link = link.unwrap_or(nobody);
+        let link = link.unwrap_or_default();
         self.bytes(&link.place.to_be_bytes());
         self.bytes(&[link.server]);
     }
@@ -87,23 +87,14 @@ impl Sum {
 
     // An age counts only while something waits.
     fn handover(&mut self, handover: Handover, age: u8) {
-        match handover {
-            Handover::Idle => {
-                self.bytes(&[0]);
-                self.link(None);
-                self.bytes(&[0]);
-            }
-            Handover::AwaitStood(link) => {
-                self.bytes(&[1]);
-                self.link(Some(link));
-                self.bytes(&[age]);
-            }
-            Handover::AwaitTold(link) => {
-                self.bytes(&[2]);
-                self.link(Some(link));
-                self.bytes(&[age]);
-            }
-        }
+        let (phase, link, age) = match handover {
+            Handover::Idle => (0, None, 0),
+            Handover::AwaitStood(link) => (1, Some(link), age),
+            Handover::AwaitTold(link) => (2, Some(link), age),
+        };
+        self.bytes(&[phase]);
+        self.link(link);
+        self.bytes(&[age]);
     }
 
     fn untold(&mut self, untold: &[u16], age: u8) {
@@ -127,7 +118,7 @@ impl Sum {
 }
 
 pub fn of_balancer(balancer: &Balancer) -> u64 {
-    let mut sum = Sum { value: START };
+    let mut sum = Sum::new();
     for link in balancer.links() {
         sum.link(Some(*link));
     }
@@ -135,14 +126,10 @@ pub fn of_balancer(balancer: &Balancer) -> u64 {
 }
 
 fn of_session(key: Key, last: u64) -> u64 {
-    let mut sum = Sum { value: START };
+    let mut sum = Sum::new();
     sum.bytes(&key.bucket.to_be_bytes());
     sum.bytes(&key.place.to_be_bytes());
-    sum.bytes(&key.flow.src.to_be_bytes());
-    sum.bytes(&key.flow.dst.to_be_bytes());
-    sum.bytes(&key.flow.sport.to_be_bytes());
-    sum.bytes(&key.flow.dport.to_be_bytes());
-    sum.bytes(&[key.flow.protocol.number()]);
+    sum.bytes(&<[u8; 13]>::from(key.flow));
     sum.bytes(&last.to_be_bytes());
     sum.value
 }
@@ -161,7 +148,7 @@ fn of_sessions(heap: Global, server: &Server) -> Result<u64, Error> {
 }
 
 pub fn of_server(heap: Global, server: &Server) -> Result<u64, Error> {
-    let mut sum = Sum { value: START };
+    let mut sum = Sum::new();
     sum.bytes(&[server.number()]);
     for bucket in server.held() {
         sum.holding(bucket);
@@ -174,16 +161,14 @@ pub fn of_server(heap: Global, server: &Server) -> Result<u64, Error> {
 }
 
 pub fn of_controller(controller: &Controller) -> u64 {
-    let mut sum = Sum { value: START };
+    let mut sum = Sum::new();
     let servers = controller.servers();
     sum.bytes(&((servers.len() & 0xffff) as u16).to_be_bytes());
     sum.bytes(servers);
-    let mut bucket = 0u16;
-    for assigned in controller.assignment() {
+    for (bucket, assigned) in (0..=65535u16).zip(controller.assignment()) {
         if let Some(charge) = controller.bucket(bucket) {
             sum.charge(*assigned, charge);
         }
-        bucket = bucket.wrapping_add(1);
     }
     sum.bytes(&controller.now().to_be_bytes());
     sum.value

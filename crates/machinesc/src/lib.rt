@@ -5,11 +5,13 @@ pub mod digest;
 pub mod output;
 pub mod script;
 
+use crate::output::Writer;
+use crate::script::{DIGEST, Header, Kind, read_header, read_step};
 use balancer::Balancer;
 use chain::place::Outcome;
 use controller::kept::Controller;
 use edge::post::Post;
-use fault::{Error, Fault};
+use fault::Error;
 use flow::buckets::Buckets;
 use machine::name::Machine;
 use roster::roster::Roster;
@@ -27,20 +29,24 @@ enum Any {
 }
 
 impl Any {
-    fn new(heap: Global, header: script::Header<'_>) -> Result<Any, Error> {
-        let buckets = match Buckets::new(header.buckets) {
-            Ok(buckets) => buckets,
-            Err(fault) => return Err(Error::Of(fault)),
-        };
-        if header.kind == 3 {
-            let controller = Controller::new(heap, buckets, header.servers, header.balancers)?;
-            return Ok(Any::Controller(controller));
-        }
-        let roster = Roster::new(heap, buckets.count() as usize, header.servers)?;
+    fn new(heap: Global, header: Header<'_>) -> Result<Any, Error> {
+        let buckets = Buckets::new(header.buckets)?;
+        let count = buckets.count() as usize;
         match header.kind {
-            1 => Ok(Any::Balancer(Balancer::new(heap, buckets, roster.assignment())?)),
-            2 => Ok(Any::Server(Server::new(heap, header.number, buckets, roster.assignment())?)),
-            _ => Err(Error::Of(Fault::NoSuch)),
+            Kind::Balancer => {
+                let roster = Roster::new(heap, count, header.servers)?;
+                let balancer = Balancer::new(heap, buckets, roster.assignment())?;
+                Ok(Any::Balancer(balancer))
+            }
+            Kind::Server => {
+                let roster = Roster::new(heap, count, header.servers)?;
+                let server = Server::new(heap, header.number, buckets, roster.assignment())?;
+                Ok(Any::Server(server))
+            }
+            Kind::Controller => {
+                let controller = Controller::new(heap, buckets, header.servers, header.balancers)?;
+                Ok(Any::Controller(controller))
+            }
         }
     }
 
@@ -83,45 +89,46 @@ fn step(
     machine: &mut Any,
     from: Machine,
     bytes: &[u8],
-    out: &mut [u8],
-    at: usize,
-) -> Result<usize, Error> {
+    out: &mut Writer<'_>,
+) -> Result<(), Error> {
     let mut post = Post::new(heap);
-    let mut lent = Vec::new(heap);
-    lent.extend_from_slice(bytes)?;
-    if machine.hear(heap, from, lent.as_mut_slice(), &mut post)? && lent.len() >= HEAD {
-        return Ok(output::put_table(&lent.as_slice()[HEAD..], out, at));
+    let mut lent = Vec::from_slice(heap, bytes)?;
+    let opened = machine.hear(heap, from, lent.as_mut_slice(), &mut post)?;
+    match lent.as_slice().get(HEAD..) {
+        Some(packet) if opened => out.put_table(packet),
+        _ => out.put_posted(post.posted()),
     }
-    Ok(output::put_posted(post.posted(), out, at))
+    Ok(())
 }
 
-fn play(heap: Global, script: &[u8], out: &mut [u8]) -> Result<usize, Error> {
-    let Some(header) = script::read_header(script) else {
-        return Ok(0);
+fn play(heap: Global, script: &[u8], out: &mut Writer<'_>) -> Result<(), Error> {
+    let Some(header) = read_header(script) else {
+        return Ok(());
     };
     let mut machine = Any::new(heap, header)?;
     let mut rest = header.rest;
-    let mut at = 0;
-    for _i in 0..script.len() {
-        if let [script::DIGEST, tail @ ..] = rest {
-            at = output::put(&machine.digest(heap)?.to_be_bytes(), out, at);
+    // Each turn takes a byte or more, so there are no more turns than bytes: nothing else has to end the loop.
+    for _ in 0..script.len() {
+        if let [DIGEST, tail @ ..] = rest {
+            out.put(&machine.digest(heap)?.to_be_bytes());
             rest = tail;
         } else {
-            let Some(next) = script::read_step(rest) else {
+            let Some(next) = read_step(rest) else {
                 break;
             };
-            at = step(heap, &mut machine, next.from, next.bytes, out, at)?;
+            step(heap, &mut machine, next.from, next.bytes, out)?;
             rest = next.rest;
         }
     }
-    Ok(at)
+    Ok(())
 }
 
 // Plays the script on a new machine, and writes what it sends while there is room; how many bytes were written.
 #[unsafe(no_mangle)]
 pub extern "C" fn play_machine(heap: Global, script: &[u8], out: &mut [u8]) -> usize {
-    match play(heap, script, out) {
-        Ok(written) => written,
+    let mut out = Writer::new(out);
+    match play(heap, script, &mut out) {
+        Ok(()) => out.written(),
         Err(_) => 0,
     }
 }

@@ -1,20 +1,34 @@
 // The bytes of a script: which machine plays it, and its steps.
-ghost use Rattle.std.specs.Prelude.{◌+◌, ◌≤◌, length};
-
+use fault::Fault;
 use machine::name::Machine;
 
 // A step that asks for a digest of the state.
 pub const DIGEST: u8 = 255;
 
-// The bytes of a header before its servers, and of a step before its message.
-const HEADER: usize = 10;
+// Which machine plays.
+#[derive(Clone, Copy, PartialEq, Eq, Debug)]
+pub enum Kind {
+    Balancer,
+    Server,
+    Controller,
+}
 
-const STEP: usize = 7;
+impl TryFrom<u8> for Kind {
+    type Error = Fault;
 
-#[derive(Clone, Copy)]
+    fn try_from(number: u8) -> Result<Kind, Fault> {
+        match number {
+            1 => Ok(Kind::Balancer),
+            2 => Ok(Kind::Server),
+            3 => Ok(Kind::Controller),
+            _ => Err(Fault::NoSuch),
+        }
+    }
+}
+
+#[derive(Clone, Copy, PartialEq, Eq, Debug)]
 pub struct Header<'a> {
-    // 1 balancer, 2 server, 3 controller.
-    pub kind: u8,
+    pub kind: Kind,
     pub number: u8,
     pub buckets: u32,
     pub balancers: u16,
@@ -22,41 +36,27 @@ pub struct Header<'a> {
     pub rest: &'a [u8],
 }
 
-#[derive(Clone, Copy)]
+#[derive(Clone, Copy, PartialEq, Eq, Debug)]
 pub struct Step<'a> {
     pub from: Machine,
     pub bytes: &'a [u8],
     pub rest: &'a [u8],
 }
 
-fn number16(bytes: &[u8], at: usize) -> u16
-    requires { at + 2 ≤ length bytes.now }
-{
-    u16::from_be_bytes([bytes[at], bytes[at + 1]])
-}
-
-fn number32(bytes: &[u8], at: usize) -> u32
-    requires { at + 4 ≤ length bytes.now }
-{
-    u32::from_be_bytes([bytes[at], bytes[at + 1], bytes[at + 2], bytes[at + 3]])
-}
-
+// Ten bytes before the servers.
 pub fn read_header(script: &[u8]) -> Option<Header<'_>> {
-    if script.len() < HEADER {
+    let [kind, number, b0, b1, b2, b3, d0, d1, c0, c1, behind @ ..] = script else {
         return None;
-    }
-    let count = usize::from(number16(script, 8));
-    let behind = &script[HEADER..];
-    if behind.len() < count {
-        return None;
-    }
+    };
+    let count = usize::from(u16::from_be_bytes([*c0, *c1]));
+    let (servers, rest) = behind.split_at_checked(count)?;
     Some(Header {
-        kind: script[0],
-        number: script[1],
-        buckets: number32(script, 2),
-        balancers: number16(script, 6),
-        servers: &behind[0..count],
-        rest: &behind[count..],
+        kind: Kind::try_from(*kind).ok()?,
+        number: *number,
+        buckets: u32::from_be_bytes([*b0, *b1, *b2, *b3]),
+        balancers: u16::from_be_bytes([*d0, *d1]),
+        servers,
+        rest,
     })
 }
 
@@ -71,19 +71,13 @@ fn machine(kind: u8, number: u16) -> Option<Machine> {
     }
 }
 
+// Seven bytes before the message.
 pub fn read_step(script: &[u8]) -> Option<Step<'_>> {
-    if script.len() < STEP {
+    let [kind, n0, n1, c0, c1, c2, c3, behind @ ..] = script else {
         return None;
-    }
-    let from = machine(script[0], number16(script, 1))?;
-    let count = number32(script, 3) as usize;
-    let behind = &script[STEP..];
-    if behind.len() < count {
-        return None;
-    }
-    Some(Step {
-        from,
-        bytes: &behind[0..count],
-        rest: &behind[count..],
-    })
+    };
+    let from = machine(*kind, u16::from_be_bytes([*n0, *n1]))?;
+    let count = u32::from_be_bytes([*c0, *c1, *c2, *c3]) as usize;
+    let (bytes, rest) = behind.split_at_checked(count)?;
+    Some(Step { from, bytes, rest })
 }

@@ -1,23 +1,23 @@
 // Plays all machines by a script from standard input, and prints what is seen.
 #![tactic(auto)]
 
-mod houses;
 mod show;
 mod text;
 
-use crate::houses::Change;
 use crate::show::{show_bucket, show_status, show_summary};
-use crate::text::{EventText, HexText, MachineText, MessageText};
+use crate::text::{EventText, MachineText, MessageText};
 use anyhow::anyhow;
 use assignment::counts::counts;
 use assignment::moves::moves;
 use commands::command::{Command, Watch};
 use commands::read::read_line;
 use fault::{Error, Fault};
+use shown::change::Change;
+use shown::program::{answer, is_asked, print_title};
+use shown::text::HexText;
 use simulation::event::Event;
 use simulation::letter::Letter;
 use simulation::world::Simulation;
-use std::env;
 use wire_read::read;
 
 const HELP: &str = "network: plays doors, houses and the office by a script on standard input
@@ -57,21 +57,6 @@ struct Player {
     bytes: bool,
 }
 
-// Faults are answered, want of memory ends the program.
-fn answer(rt: &HostRuntime, number: u64, error: Error) -> anyhow::Result<()> {
-    match error {
-        Error::Of(fault) => {
-            println!(rt;
-                "  line {number}: fault {}: {}",
-                fault.number(),
-                fault.text()
-            )?;
-            Ok(())
-        }
-        Error::Memory => Err(anyhow!("no memory")),
-    }
-}
-
 impl Player {
     fn is_watched(&self, bucket: Option<u16>) -> bool {
         match (self.watch, bucket) {
@@ -100,7 +85,7 @@ impl Player {
         )?;
         match read(letter.bytes.as_slice(), self.simulation.buckets()) {
             Ok(message) => println!(rt; "{}", MessageText(message))?,
-            Err(unread) => println!(rt; "fault {}", unread.fault.number())?,
+            Err(unread) => println!(rt; "fault {}", u8::from(unread.fault))?,
         }
         if self.bytes {
             println!(rt; "    {}", HexText(letter.bytes.as_slice()))?;
@@ -162,7 +147,7 @@ impl Player {
 
     // One message after the other, until none is left: each is printed before the next is handled.
     fn play_all(&mut self, rt: &HostRuntime, number: u64, one: Command) -> anyhow::Result<()> {
-        for _i in 0..MOST_HANDLED {
+        for _ in 0..MOST_HANDLED {
             match self.play(one) {
                 Ok(()) => self.print_seen(rt)?,
                 Err(Error::Of(_)) => break,
@@ -184,7 +169,7 @@ impl Player {
         let had = counts(before.as_slice());
         let has = counts(now);
         let moves = moves(rt.alloc(), before.as_slice(), now)?;
-        Ok(Change { had, has, moves })
+        Ok(Change::new(rt.alloc(), had, has, moves)?)
     }
 
     fn print_order(
@@ -264,11 +249,7 @@ impl Player {
                 println!(rt; "{line}")?;
                 Ok(())
             }
-            Ok(Command::Title) => {
-                let (_, text) = line.split_once("title").unwrap_or(("", ""));
-                println!(rt; "=={text} ==")?;
-                Ok(())
-            }
+            Ok(Command::Title) => print_title(rt, line),
             Ok(command) => {
                 println!(rt; "> {line}")?;
                 self.play_command(rt, number, command)
@@ -290,25 +271,15 @@ fn play(rt: &HostRuntime) -> anyhow::Result<()> {
         watch: Watch::All,
         bytes: false,
     };
-    let mut number = 0u64;
-    for line in rt.lines(rt.alloc()) {
-        let line = line?;
-        number = number.wrapping_add(1);
-        player.play_line(rt, number, line.as_str())?;
+    for (number, line) in (1..u64::MAX).zip(rt.lines(rt.alloc())) {
+        player.play_line(rt, number, line?.as_str())?;
     }
     Ok(())
 }
 
-fn run(rt: &HostRuntime) -> anyhow::Result<()> {
-    for arg in env::args(rt)?.skip(1) {
-        if arg.as_str() == "--help" {
-            println!(rt; "{HELP}")?;
-            return Ok(());
-        }
-    }
-    play(rt)
-}
-
 fn main(rt: HostRuntime) -> anyhow::Result<()> {
-    run(&rt)
+    if is_asked(&rt, HELP)? {
+        return Ok(());
+    }
+    play(&rt)
 }

@@ -1,13 +1,10 @@
 // What is printed of a bucket, of what operators ask for, and of a whole run.
-use crate::text::{LinkText, PlaceText};
 use anyhow::anyhow;
-use chain::handover::Handover;
-use commands::flow_text::FlowText;
 use controller::kept::Controller;
-use controller_bucket::kept::Bucket;
 use flow::key::FlowKey;
 use server::kept::Server;
 use sessions::key::Key;
+use shown::text::{ChainText, LinkText, PlaceText};
 use simulation::world::Simulation;
 
 // A server's places of a bucket, and the flow's session, if it is open in one of them.
@@ -19,9 +16,9 @@ fn show_places(
 ) -> anyhow::Result<()> {
     for place in server.places(bucket) {
         let number = place.link.place;
+        let text: PlaceText<LinkText> = PlaceText::from(*place);
         println!(rt;
-            "  {}, tables {}",
-            PlaceText(*place),
+            "  {text}, tables {}",
             server.sessions().count_at(bucket, number)
         )?;
         let key = Key {
@@ -30,29 +27,8 @@ fn show_places(
             flow,
         };
         if server.sessions().is_open(&key) {
-            println!(rt;
-                "  table {} open at {}",
-                FlowText(flow),
-                LinkText(place.link)
-            )?;
+            println!(rt; "  table {flow} open at {}", LinkText(place.link))?;
         }
-    }
-    Ok(())
-}
-
-// The chain as the controller keeps it, newest first.
-fn show_chain(rt: &HostRuntime, kept: &Bucket) -> anyhow::Result<()> {
-    print!(rt; "  office keeps")?;
-    for link in kept.links() {
-        print!(rt; " {},", LinkText(*link))?;
-    }
-    match kept.handover() {
-        Handover::Idle => println!(rt; " no change of hands")?,
-        Handover::AwaitStood(link) => println!(rt; " waits for {} to stand", LinkText(link))?,
-        Handover::AwaitTold(link) => println!(rt;
-            " waits for the newest to be told of {}",
-            LinkText(link)
-        )?,
     }
     Ok(())
 }
@@ -69,7 +45,11 @@ pub fn show_bucket(rt: &HostRuntime, simulation: &Simulation, flow: FlowKey) -> 
         }
     }
     if let Some(kept) = simulation.controller().bucket(bucket) {
-        show_chain(rt, kept)?;
+        let chain = ChainText {
+            links: kept.links(),
+            handover: kept.handover(),
+        };
+        println!(rt; "  {chain}")?;
     }
     Ok(())
 }

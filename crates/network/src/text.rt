@@ -1,68 +1,9 @@
 // What is printed of machines, messages and events. Here a server is a house, a balancer a door, the controller the office, a session a table.
-use chain::place::{Place, Standing};
-use chain::way::{Link, Way};
-use commands::flow_text::FlowText;
-use fault::Refusal;
 use machine::name::Machine;
+use shown::text::{LinkText, NeighbourText, PacketText};
 use simulation::event::Event;
 use std::fmt;
 use wire::message::{Control, Message};
-
-#[derive(Drop)]
-pub struct HexText<'a>(pub &'a [u8]);
-
-impl fmt::Display for HexText<'_> {
-    fn fmt<W: fmt::Write>(&self, f: &mut fmt::Formatter<W>) -> fmt::Result {
-        for byte in self.0 {
-            write!(f, "{byte:02x}")?;
-        }
-        Ok(())
-    }
-}
-
-#[derive(Drop)]
-pub struct LinkText(pub Link);
-
-impl fmt::Display for LinkText {
-    fn fmt<W: fmt::Write>(&self, f: &mut fmt::Formatter<W>) -> fmt::Result {
-        write!(f, "place {} of house {}", self.0.place, self.0.server)
-    }
-}
-
-#[derive(Drop)]
-struct NeighbourText(Option<Link>);
-
-impl fmt::Display for NeighbourText {
-    fn fmt<W: fmt::Write>(&self, f: &mut fmt::Formatter<W>) -> fmt::Result {
-        match self.0 {
-            Some(link) => write!(f, "{}", LinkText(link)),
-            None => f.write_str("none"),
-        }
-    }
-}
-
-#[derive(Drop)]
-pub struct PlaceText(pub Place);
-
-impl fmt::Display for PlaceText {
-    fn fmt<W: fmt::Write>(&self, f: &mut fmt::Formatter<W>) -> fmt::Result {
-        let here = LinkText(self.0.link);
-        match self.0.standing {
-            Standing::Never => write!(f, "{here} does not stand yet"),
-            Standing::Stands { before, after } => write!(
-                f,
-                "{here} stands, before it {}, after it {}",
-                NeighbourText(before),
-                NeighbourText(after)
-            ),
-            Standing::Forgotten { after } => write!(
-                f,
-                "{here} is forgotten, after it {}",
-                LinkText(after)
-            ),
-        }
-    }
-}
 
 #[derive(Drop)]
 pub struct MachineText(pub Machine);
@@ -80,19 +21,6 @@ impl fmt::Display for MachineText {
 }
 
 #[derive(Drop)]
-struct WayText(Way);
-
-impl fmt::Display for WayText {
-    fn fmt<W: fmt::Write>(&self, f: &mut fmt::Formatter<W>) -> fmt::Result {
-        match self.0 {
-            Way::Up => f.write_str("up"),
-            Way::Down(by) => write!(f, "down for place {}", by.place),
-            Way::Asked(by) => write!(f, "asked by place {}", by.place),
-        }
-    }
-}
-
-#[derive(Drop)]
 struct ControlText(Control);
 
 impl fmt::Display for ControlText {
@@ -105,7 +33,7 @@ impl fmt::Display for ControlText {
             } => write!(
                 f,
                 "bucket {bucket}: stand at place {place}, before you {}",
-                NeighbourText(before)
+                NeighbourText(before.map(LinkText))
             ),
             Control::Behind {
                 bucket,
@@ -139,31 +67,19 @@ impl fmt::Display for MessageText<'_> {
     fn fmt<W: fmt::Write>(&self, f: &mut fmt::Formatter<W>) -> fmt::Result {
         match self.0 {
             Message::Packet { head, flow, .. } => {
-                write!(
-                    f,
-                    "bucket {}: packet {} to place {}, {}",
-                    head.bucket,
-                    FlowText(flow),
-                    head.place,
-                    WayText(head.way)
-                )?;
-                if head.opens {
-                    f.write_str(", may open")?;
-                }
-                Ok(())
+                let text = PacketText {
+                    flow,
+                    place: head.place,
+                    way: head.way,
+                    opens: head.opens,
+                };
+                write!(f, "bucket {}: {text}", head.bucket)
             }
             Message::Control(control) => write!(f, "{}", ControlText(control)),
             Message::Answer(control) => write!(f, "answer to {}", ControlText(control)),
-            Message::Refused { refusal, .. } => write!(f, "refused {}", refusal.number()),
+            Message::Refused { refusal, .. } => write!(f, "refused {}", u8::from(refusal)),
             Message::Order(_) => f.write_str("an order"),
         }
-    }
-}
-
-fn refusal_text(refusal: Refusal) -> &'static str {
-    match refusal {
-        Refusal::Nobody => "nobody has the table",
-        Refusal::For(fault) => fault.text(),
     }
 }
 
@@ -185,7 +101,7 @@ impl fmt::Display for EventText {
                 opened,
                 ..
             } => {
-                write!(f, "given {} at {}", FlowText(flow), LinkText(at))?;
+                write!(f, "given {flow} at {}", LinkText(at))?;
                 if opened {
                     f.write_str(", opened now")?;
                 }
@@ -198,19 +114,15 @@ impl fmt::Display for EventText {
                 ..
             } => write!(
                 f,
-                "refused {} {} at {}: {}",
-                refusal.number(),
-                FlowText(flow),
-                LinkText(at),
-                refusal_text(refusal)
+                "refused {} {flow} at {}: {refusal}",
+                u8::from(refusal),
+                LinkText(at)
             ),
             Event::Dropped { .. } => f.write_str("dropped, as if lost"),
             Event::Contradicted { fault, .. } => {
-                write!(f, "refused {}: {}", fault.number(), fault.text())
+                write!(f, "refused {}: {fault}", u8::from(fault))
             }
-            Event::Closed { server, flow } => {
-                write!(f, "closed {} at house {server}", FlowText(flow))
-            }
+            Event::Closed { server, flow } => { write!(f, "closed {flow} at house {server}") }
             Event::PutOff { bucket } => write!(
                 f,
                 "refused 10: bucket {bucket} keeps eight places, its change of hands is put off"

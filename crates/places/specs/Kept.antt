@@ -1,7 +1,6 @@
 -- The struct of a server's places, as the rules know it. Assumes nothing.
-use Rattle.std.specs.Prelude.{take}
 use Rattle.places.specs.declared.kept.Places.{Places}
 use Rattle.places.specs.Rules.{Known}
 
 abbrev pub known : Places → Known
-known p = record { highest = p.highest; standing = take p.count p.standing; past = take p.past_count p.past }
+known p = record { highest = p.highest; standing = p.standing.items; past = p.past.items }

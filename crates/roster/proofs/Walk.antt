@@ -1,15 +1,18 @@
--- A walk through a list of servers: one that is among them is listed, one that is not is passed. Assumes nothing.
-use Rattle.std.proofs.Common.{◌≡◌, ℕ, ◌+◌, ◌<◌, true, false, ◌&&◌, ltb, leb, List, [], ◌∷◌, ◌++◌, length, get_or, drop, append_assoc}
-use Rattle.std.proofs.lemmas.List.{drop_more}
-use Rattle.roster.specs.Listing.{among, with_server}
+-- The servers below a number and those above it, as a filter picks them. Assumes nothing.
+use Rattle.std.proofs.Common.{◌≡◌, ℕ, suc, ◌+◌, ◌<◌, ◌&&◌, ltb, leb, List, [], ◌∷◌, get_or, filter, sym, refl, arith}
+use Rattle.std.proofs.lemmas.Bool.Decides.{nat_tests}
+use Rattle.roster.specs.Listing.{among}
 
-pub walk_yes : (a b : ℕ) (out ss : List ℕ) (i d : ℕ) → i < length ss → (leb a (get_or ss i d) && ltb (get_or ss i d) b) ≡ true
-    → (out ++ get_or ss i d ∷ []) ++ among a b (drop (i + 1) ss) ≡ out ++ among a b (drop i ss)
-walk_yes a b out ss i d h t = rw (append_assoc out (get_or ss i d ∷ []) (among a b (drop (i + 1) ss)), drop_more ss i d h, t)
+below_test : (s x : ℕ) → ltb x s ≡ (leb 0 x && ltb x s)
+below_test s x = grind (arith, nat_tests)
 
-pub walk_no : (a b : ℕ) (out ss : List ℕ) (i d : ℕ) → i < length ss → (leb a (get_or ss i d) && ltb (get_or ss i d) b) ≡ false
-    → out ++ among a b (drop (i + 1) ss) ≡ out ++ among a b (drop i ss)
-walk_no a b out ss i d h t = rw (drop_more ss i d h, t)
+above_test : (s x : ℕ) → x < 256 → ltb s x ≡ (leb (s + 1) x && ltb x 256)
+above_test s x h = grind (arith, nat_tests)
 
-pub with_is : (ss : List ℕ) (s m : ℕ) (n a b d : List ℕ) → m ≡ s → n ≡ [] → a ≡ n ++ among 0 m ss → b ≡ a ++ s ∷ [] → d ≡ b ++ among (m + 1) 256 ss → d ≡ with_server s ss
-with_is ss s m n a b d t e f g h = rw (h, g, f, e, t) (append_assoc (among 0 s ss) (s ∷ []) (among (s + 1) 256 ss))
+pub below_is : (s : ℕ) (ss : List ℕ) → filter (λ x. ltb x s) ss ≡ among 0 s ss
+below_is s [] = refl
+below_is s (x ∷ ss) = rw (below_is s ss, sym (below_test s x))
+
+pub above_is : (s : ℕ) (ss : List ℕ) → ((i : ℕ) → get_or ss i 0 < 256) → filter (λ x. ltb s x) ss ≡ among (s + 1) 256 ss
+above_is s [] low = refl
+above_is s (x ∷ ss) low = rw (above_is s ss (λ i. low (suc i)), sym (above_test s x (low 0)))

@@ -1,11 +1,11 @@
 // The list of servers and the assignment of all buckets to them, as servers come and go.
 ghost use Rattle.std.specs.Prelude.{◌≡◌, IfOk, vec_len};
-ghost use Rattle.assignment.specs.Rule.{is_buckets};
 ghost use Rattle.roster.specs.Rosters.{none, servers_of, assignment_of, Begun, Changed, Added, Removed, ChangedWhole, AddedWhole, RemovedWhole};
 ghost use Rattle.assignment.specs.Even.{Numbered};
 
 use crate::list::{with_server, without_server};
 use assignment::balance::rebalance;
+pub use assignment::buckets::is_buckets;
 use assignment::counts::NONE;
 use assignment::moves::{Move, moves};
 use fault::{Error, Fault};
@@ -19,20 +19,11 @@ pub struct Roster {
     assignment: Vec<u16>,
 }
 
-// May there be so many buckets? A power of two from 16 to 65,536.
-pub fn is_buckets(buckets: usize) -> bool
-    ensures { result ≡ is_buckets buckets }
-{
-    buckets >= 16 && buckets <= 65_536 && buckets.is_power_of_two()
-}
-
 // Buckets that have no server yet.
 pub fn unassigned(heap: Global, buckets: usize) -> Result<Vec<u16>, AllocError>
     ensures { IfOk result (λ v. (v.items ≡ none buckets) × (vec_len v ≡ buckets)) }
 {
-    let mut assignment = Vec::new(heap);
-    assignment.resize(buckets, NONE)?;
-    Ok(assignment)
+    vec![in heap; NONE; buckets]
 }
 
 impl Roster {
@@ -45,9 +36,7 @@ impl Roster {
             return Err(Error::Of(Fault::NoSuch));
         }
         let mut assignment = unassigned(heap, buckets)?;
-        if let Err(fault) = rebalance(assignment.as_mut_slice(), servers) {
-            return Err(Error::Of(fault));
-        }
+        rebalance(&mut assignment, servers)?;
         let servers = Vec::from_slice(heap, servers)?;
         Ok(Roster {
             servers,
@@ -58,13 +47,13 @@ impl Roster {
     pub fn servers(&self) -> &[u8]
         ensures { result.now ≡ servers_of self.now }
     {
-        self.servers.as_slice()
+        &self.servers
     }
 
     pub fn assignment(&self) -> &[u16]
         ensures { result.now ≡ assignment_of self.now }
     {
-        self.assignment.as_slice()
+        &self.assignment
     }
 
     // A server comes: the buckets that change hands. One that is listed changes nothing.
@@ -72,9 +61,7 @@ impl Roster {
         ensures added { Added server self.old self.new result }
         ensures whole { AddedWhole server self.old self.new result }
     {
-        let Ok(servers) = with_server(heap, self.servers.as_slice(), server) else {
-            return Err(Error::Memory);
-        };
+        let servers = with_server(heap, &self.servers, server)?;
         if servers.len() == self.servers.len() {
             return Ok(Vec::new(heap));
         }
@@ -86,9 +73,7 @@ impl Roster {
         ensures removed { Removed server self.old self.new result }
         ensures whole { RemovedWhole server self.old self.new result }
     {
-        let Ok(servers) = without_server(heap, self.servers.as_slice(), server) else {
-            return Err(Error::Memory);
-        };
+        let servers = without_server(heap, &self.servers, server)?;
         if servers.len() == self.servers.len() {
             return Err(Error::Of(Fault::NoSuch));
         }
@@ -100,11 +85,13 @@ impl Roster {
         ensures changed { Changed servers.items self.old self.new result }
         ensures whole { ChangedWhole servers.items self.old self.new result }
     {
-        let mut assignment = Vec::from_slice(heap, self.assignment.as_slice())?;
-        rebalance(assignment.as_mut_slice(), servers.as_slice())?;
-        let moves = moves(heap, self.assignment.as_slice(), assignment.as_slice())?;
-        self.servers = servers;
-        self.assignment = assignment;
+        let mut assignment = Vec::from_slice(heap, &self.assignment)?;
+        rebalance(&mut assignment, &servers)?;
+        let moves = moves(heap, &self.assignment, &assignment)?;
+        *self = Roster {
+            servers,
+            assignment,
+        };
         Ok(moves)
     }
 }

@@ -2,5 +2,5 @@
 #![tactic(auto)]
 
 pub mod command;
-pub mod flow_text;
 pub mod read;
+pub mod word;

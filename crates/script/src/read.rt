@@ -1,8 +1,7 @@
 // A line of the script to its command.
 use crate::command::Command;
-use crate::flow_text::read_flow;
+use crate::word::{number, switch};
 use fault::{Error, Fault};
-use flow::key::FlowKey;
 use std::alloc::Global;
 
 // Without numbers of its own, `reset` means these.
@@ -44,7 +43,7 @@ pub fn read_servers(heap: Global, line: &str) -> Result<Vec<u8>, Error> {
     let mut words = line.split_whitespace();
     words.next();
     for word in words {
-        servers.push(read_small(word)?)?;
+        servers.push(number(word)?)?;
     }
     Ok(servers)
 }
@@ -70,34 +69,34 @@ fn read_bare(word: &str) -> Result<Command, Fault> {
 fn read_one(word: &str, only: &str) -> Result<Command, Fault> {
     match word {
         "change" => Ok(Command::Change {
-            server: read_small(only)?,
+            server: number(only)?,
         }),
         "ticks" => Ok(Command::Ticks {
-            count: read_number(only)?,
+            count: number(only)?,
         }),
         "buckets" => Ok(Command::Buckets {
-            buckets: read_number(only)?,
+            buckets: number(only)?,
         }),
         "add" => Ok(Command::Add {
-            server: read_small(only)?,
+            server: number(only)?,
         }),
         "down" => Ok(Command::Remove {
-            server: read_small(only)?,
+            server: number(only)?,
         }),
         "bytes" => Ok(Command::Bytes {
-            shown: read_switch(only)?,
+            shown: switch(only)?,
         }),
         "close" => Ok(Command::Close {
-            flow: flow_of(only)?,
+            flow: only.parse()?,
         }),
         "deliver" => Ok(Command::Deliver {
-            number: read_number(only)?,
+            number: number(only)?,
         }),
         "lose" => Ok(Command::Lose {
-            number: read_number(only)?,
+            number: number(only)?,
         }),
         "repeat" => Ok(Command::Repeat {
-            number: read_number(only)?,
+            number: number(only)?,
         }),
         _ => Err(Fault::Malformed),
     }
@@ -107,45 +106,25 @@ fn read_one(word: &str, only: &str) -> Result<Command, Fault> {
 fn read_more(word: &str, first: &str, second: &str, third: Option<&str>) -> Result<Command, Fault> {
     match (word, third) {
         ("packet", None) => Ok(Command::Packet {
-            balancer: read_small(first)?,
-            flow: flow_of(second)?,
+            balancer: number(first)?,
+            flow: second.parse()?,
             opens: false,
         }),
         ("packet", Some("open")) => Ok(Command::Packet {
-            balancer: read_small(first)?,
-            flow: flow_of(second)?,
+            balancer: number(first)?,
+            flow: second.parse()?,
             opens: true,
         }),
         ("reset", None) => Ok(Command::Reset {
-            servers: read_small(first)?,
-            balancers: read_small(second)?,
+            servers: number(first)?,
+            balancers: number(second)?,
             room: ROOM,
         }),
         ("reset", Some(room)) => Ok(Command::Reset {
-            servers: read_small(first)?,
-            balancers: read_small(second)?,
-            room: read_number(room)?,
+            servers: number(first)?,
+            balancers: number(second)?,
+            room: number(room)?,
         }),
         _ => Err(Fault::Malformed),
     }
-}
-
-fn read_switch(word: &str) -> Result<bool, Fault> {
-    match word {
-        "on" => Ok(true),
-        "off" => Ok(false),
-        _ => Err(Fault::Malformed),
-    }
-}
-
-fn read_small(word: &str) -> Result<u8, Fault> {
-    word.parse::<u8>().ok().ok_or(Fault::Malformed)
-}
-
-fn read_number(word: &str) -> Result<u32, Fault> {
-    word.parse::<u32>().ok().ok_or(Fault::Malformed)
-}
-
-fn flow_of(word: &str) -> Result<FlowKey, Fault> {
-    read_flow(word).ok_or(Fault::BadPacket)
 }

@@ -1,19 +1,17 @@
 -- Ticks at a server, bucket by bucket and session by session. Assumes nothing.
-use Rattle.std.proofs.Common.{◌≡◌, ℕ, suc, ◌+◌, ◌<◌, ◌≤◌, false, List, [], ◌∷◌, ◌++◌, map, length, get_or, take, drop, set, is_err, IfOk, Ok, Err, Result, sym, refl, ap, ◌∙◌, arith, MatchResult}
+use Rattle.std.proofs.Common.{◌≡◌, ℕ, suc, ◌+◌, ◌<◌, ◌≤◌, List, [], ◌∷◌, ◌++◌, map, length, get_or, take, drop, set, IfOk, Ok, Err, Result, sym, ap, ◌∙◌, arith, MatchResult}
 use Rattle.std.proofs.lemmas.List.Edits.{map_over_more}
 use Rattle.std.proofs.lemmas.List.{map-set, get_or-map, length-map, length-take, take-append-le, at_drop_more, at_drop_all}
 use Rattle.sessions.specs.declared.entry.Entry.{Entry}
 use Rattle.sessions.specs.declared.key.Key.{Key}
-use Rattle.sessions.specs.Entries.{idle_keys, staying}
+use Rattle.sessions.specs.Entries.{idle_keys}
 use Rattle.machine.specs.declared.sent.Sent.{Sent}
 use Rattle.server_bucket.specs.declared.kept.Bucket.{Bucket}
 use Rattle.server_bucket.specs.Rules as bucket
 use Rattle.server_bucket.specs.Rules.{Holding, passed}
 use Rattle.server_bucket.specs.Kept.{holding}
-use Rattle.server_bucket.proofs.Joined.{two_more, rest_more}
-use Rattle.server.specs.Rules.{Keeping, due_from, emptied, emptied_all, later, ticked}
-use Rattle.server.specs.Kept.{Obeys}
-use Rattle.server.proofs.Told.{with_holdings}
+use Rattle.server_bucket.proofs.Joined.{rest_more}
+use Rattle.server.specs.Rules.{Keeping, due_from, emptied, emptied_all}
 
 -- WHAT IS DUE
 
@@ -87,22 +85,3 @@ all_none qs i es k h = at_drop_all (λ xs. emptied_all xs es k) qs i h
 pub idle_few : (t : ℕ) (es : List Entry) → length (idle_keys t es) ≤ length es
 idle_few t [] = omega arith
 idle_few t (e ∷ es) = let ih = idle_few t es in grind arith
-
--- ALL OF IT
-
-pub elapsed : (n : ℕ) (k k₁ k' : Keeping) (es es₁ es' : List Entry) (names : List Key) (out out₁ out' : List Sent) → names ≡ idle_keys (k.tick + n) es → es₁ ≡ staying (k.tick + n) es → k₁ ≡ later n k
-    → es' ≡ es₁ → out₁ ≡ out ++ due_from 0 n k.holdings → k' ≡ (emptied_all names es₁ k₁).1 → out' ≡ out₁ ++ (emptied_all names es₁ k₁).0
-    → Obeys (ticked n k es) (Ok tt) k k' es es' out out'
-elapsed n k k₁ k' es es₁ es' names out out₁ out' named stay late same due kk o =
-    let all : emptied_all names es₁ k₁ ≡ emptied_all (idle_keys (k.tick + n) es) (staying (k.tick + n) es) (later n k) = rw (named, stay, late) refl in (
-      kk ∙ ap (λ (p : List Sent × Keeping). p.1) all,
-      same ∙ stay,
-      two_more out out₁ out' _ _ due (o ∙ ap (λ (p : List Sent × Keeping). out₁ ++ p.0) all),
-    )
-
-pub made_at : {E : Type 0} (r : Result (Unit {0}) E) (A B : Type 0) → MatchResult r (λ _. A) (λ _. B) → is_err r ≡ false → A
-made_at (Ok u) A B c e = c
-made_at (Err y) A B c e = grind arith
-
-pub grown : (m n t t' st : ℕ) (hs hs' : List Holding) → hs' ≡ map (passed m) hs → t' ≡ t + m → with_holdings n t' st hs' ≡ later m (with_holdings n t st hs)
-grown m n t t' st hs hs' e f = ap (λ x. with_holdings n x st hs') f ∙ ap (with_holdings n (t + m) st) e

@@ -1,7 +1,8 @@
 -- The struct of a server, as the rules know it, and what each of its methods does to it. Assumes nothing.
-use Rattle.std.specs.Prelude.{◌≡◌, ℕ, ◌+◌, ◌^◌, ◌<◌, ◌≤◌, true, List, ◌++◌, map, length, is_some, Ok, Err, vec_items, Option, Result}
+use Rattle.std.specs.Prelude.{◌≡◌, ℕ, ◌+◌, ◌^◌, ◌<◌, ◌≤◌, true, List, ◌∷◌, ◌++◌, map, length, is_some, Ok, Err, vec_items, Option, Result}
 use Rattle.fault.specs.declared.Error.{Error}
 use Rattle.fault.specs.declared.Error.TheVariants.{Of, Memory}
+use Rattle.fault.specs.declared.Fault.{Fault}
 use Rattle.fault.specs.declared.Fault.TheVariants.{NoSuch}
 use Rattle.chain.specs.declared.place.Outcome.{Outcome}
 use Rattle.chain.specs.declared.place.Outcome.TheVariants.{Delivered, Opened, Forwarded, Refused, Dropped}
@@ -11,11 +12,14 @@ use Rattle.sessions.specs.declared.entry.Entry.{Entry}
 use Rattle.sessions.specs.Clocks.{ticks_of}
 use Rattle.sessions.specs.Entries.{seen_in}
 use Rattle.sessions.specs.Model.{entries_of}
+use Rattle.wire.specs.declared.message.Control.{Control}
+use Rattle.machine.specs.declared.name.Machine.{Machine}
 use Rattle.machine.specs.declared.sent.Sent.{Sent}
+use Rattle.server_bucket.specs.Rules.{tells}
 use Rattle.server_bucket.specs.Kept.{holding}
 use Rattle.server.specs.declared.kept.Server.{Server}
 use Rattle.server.specs.declared.passed.Passed.{Passed}
-use Rattle.server.specs.Rules.{Keeping, Handled, Ordered, Effect, Does, last_stood, ticked}
+use Rattle.server.specs.Rules.{Keeping, Handled, Ordered, Effect, Does, answer_to, bucket_in, told, last_stood, ticked}
 
 abbrev pub keeping : Server → Keeping
 keeping s = record { number = s.number; holdings = map holding (vec_items s.held); tick = ticks_of s.clock; stood = s.stood }
@@ -53,6 +57,11 @@ Obeys o (Err (Of f)) was after es es' out out' = ⊥
 -- a place may have been forgotten, and then this is when
 abbrev pub left : Option Link → Keeping → Keeping
 left gone k = record { number = k.number; holdings = k.holdings; tick = k.tick; stood = last_stood k.tick gone k.stood }
+
+-- what a message changes, before it is answered: a place, which may be forgotten by it, and then the place after it; a fault changes nothing
+abbrev pub Alters : Control → List Entry → Result (ℕ × Option Link) Fault → Keeping → Keeping → Type 0
+Alters c es (Ok p) was after = (from : Machine) → told from c was es ≡ Ok (answer_to from c ∷ tells (bucket_in c) p.0 p.1, left p.1 after)
+Alters c es (Err f) was after = ((from : Machine) → told from c was es ≡ Err f) × (after ≡ was)
 
 -- so many ticks pass; where a clock of 64 bits would wrap it is refused, and a refusal changes nothing
 abbrev pub Elapses : ℕ → Result (Unit {0}) Error → Keeping → Keeping → List Entry → List Entry → List Sent → List Sent → Type 0

@@ -23,6 +23,7 @@ use Rattle.sessions.specs.Model.{Changed}
 use Rattle.wire.specs.declared.message.Control.{Control}
 use Rattle.wire.specs.declared.message.Control.TheVariants as control
 use Rattle.wire.specs.declared.message.Head.{Head}
+pub use Rattle.wire.specs.Controls.{bucket_in}
 use Rattle.machine.specs.declared.name.Machine.{Machine}
 use Rattle.machine.specs.declared.name.Machine.TheVariants.{Client, Operator, Balancer, Server, Controller}
 use Rattle.machine.specs.declared.sent.Note.TheVariants.{Say, Answer}
@@ -159,12 +160,6 @@ told_of from c (control.Behind b n a) k es = changing from c b n k (bucket.behin
 told_of from c (control.Door b l) k es = Err Malformed
 told_of from c (control.Forgotten b n a) k es =
     cond (a.server == k.number) (changing from c b a.place k (bucket.freed a.place n (is_empty b a.place es) (holding_at b k))) (Err UnknownPlace)
-
-abbrev pub bucket_in : Control → ℕ
-bucket_in (control.Stand b n before) = b
-bucket_in (control.Behind b n a) = b
-bucket_in (control.Door b l) = b
-bucket_in (control.Forgotten b n a) = b
 
 -- told by a machine: what it sends, and what is left of it; or the fault, and nothing changes
 abbrev pub told : Machine → Control → Keeping → List session.Entry → Result (List Sent × Keeping) Fault

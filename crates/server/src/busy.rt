@@ -1,6 +1,6 @@
 // A place with open sessions.
 
-#[derive(Clone, Copy)]
+#[derive(Clone, Copy, PartialEq, Eq, Debug)]
 pub struct Busy {
     pub bucket: u16,
     pub place: u32,

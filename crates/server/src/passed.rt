@@ -2,7 +2,7 @@
 use chain::place::Outcome;
 use machine::sent::Sent;
 
-#[derive(Clone, Copy)]
+#[derive(Clone, Copy, PartialEq, Eq, Debug)]
 pub struct Passed {
     pub outcome: Outcome,
     // The balancer that sent to a forgotten place is told of the place after it.

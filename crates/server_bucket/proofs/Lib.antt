@@ -1,3 +1,4 @@
 pub mod Joined
-pub mod Settled
 pub mod Refused
+pub mod Said
+pub mod Settled

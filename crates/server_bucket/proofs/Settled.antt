@@ -1,7 +1,8 @@
--- The steps of a search through farewells. Assumes nothing.
-use Rattle.std.proofs.Common.{◌≡◌, ℕ, suc, ◌+◌, ◌-◌, ◌<◌, ◌≤◌, Bool, true, false, cond, ◌&&◌, ◌||◌, eqb, List, [], ◌∷◌, ◌++◌, length, get_or, take, drop, set, sym, refl, ap, ◌∙◌, arith}
-use borrow.Rule.Slice.PartMut.{put_mid, post_of, mid_of, same_len_mid, mid_len}
-use Rattle.std.proofs.lemmas.List.{append_assoc, at_drop_more, set_split, take_more, take_all, take_at, take-append-le, drop-drop, length-append, length-drop, length-take-le, length-set, take_rest, drop_all, append-nil}
+-- The word of the search is the rule. Assumes nothing.
+use Rattle.std.specs.Prelude.{position, remove}
+use Rattle.std.specs.List.{position_or_len, refill}
+use Rattle.std.proofs.Common.{◌≡◌, ℕ, zero, suc, ◌<◌, ◌≤◌, Bool, true, false, ◌&&◌, ◌||◌, eqb, List, [], ◌∷◌, ◌++◌, length, get_or, take, drop, set, Some, None, sym, refl, ap, arith}
+use Rattle.std.proofs.lemmas.List.{set_split, length-set, take_all, append-nil, drop_all}
 use Rattle.chain.specs.Ways.{same_link}
 use Rattle.chain.specs.declared.way.Link.{Link}
 use Rattle.machine.specs.declared.name.Machine.{Machine}
@@ -11,62 +12,36 @@ use Rattle.server_bucket.specs.Rules.{less_awaited, still_awaited, answered_in}
 abbrev fits : ℕ → Link → Farewell → Bool
 fits n a f = eqb n f.place && same_link a f.after
 
--- found
-pub answered_here : (n : ℕ) (a : Link) (by : Machine) (fs : List Farewell) (i : ℕ) (d : Farewell) → i < length fs → fits n a (get_or fs i d) ≡ true
-    → answered_in n a by (drop i fs) ≡ still_awaited (less_awaited by (get_or fs i d)) (drop (i + 1) fs)
+none_from : (n : ℕ) (a : Link) (by : Machine) (fs : List Farewell) → length fs ≤ position_or_len (fits n a) fs → answered_in n a by fs ≡ fs
 unfolding answered_in
-answered_here n a by fs i d h t =
-    let m : answered_in n a by (drop i fs) ≡ cond (fits n a (get_or fs i d)) (still_awaited (less_awaited by (get_or fs i d)) (drop (i + 1) fs)) (get_or fs i d ∷ answered_in n a by (drop (i + 1) fs))
-    = at_drop_more (answered_in n a by) fs i d h in
-    rw (m, t) refl
+none_from n a by [] h = refl
+none_from n a by (f ∷ fs) h = let ih = none_from n a by fs in grind (arith, ih)
 
--- not yet found
-pub answered_past : (n : ℕ) (a : Link) (by : Machine) (fs : List Farewell) (i : ℕ) (d : Farewell) → i < length fs → fits n a (get_or fs i d) ≡ false
-    → take (i + 1) fs ++ answered_in n a by (drop (i + 1) fs) ≡ take i fs ++ answered_in n a by (drop i fs)
+pub answered_none : (n : ℕ) (a : Link) (by : Machine) (fs : List Farewell) → None ≡ position (fits n a) fs → fs ≡ answered_in n a by fs
+answered_none n a by fs e = sym (none_from n a by fs (grind arith))
+
+at_first : (n : ℕ) (a : Link) (by : Machine) (fs : List Farewell) (i : ℕ) (d : Farewell) → position_or_len (fits n a) fs ≡ i → i < length fs
+    → answered_in n a by fs ≡ take i fs ++ still_awaited (less_awaited by (get_or fs i d)) (drop (suc i) fs)
 unfolding answered_in
-answered_past n a by fs i d h t =
-    let m : answered_in n a by (drop i fs) ≡ cond (fits n a (get_or fs i d)) (still_awaited (less_awaited by (get_or fs i d)) (drop (i + 1) fs)) (get_or fs i d ∷ answered_in n a by (drop (i + 1) fs))
-    = at_drop_more (answered_in n a by) fs i d h in
-    let k = take_more fs i d h in
-    rw (m, t, k) (append_assoc (take i fs) (get_or fs i d ∷ []) (answered_in n a by (drop (i + 1) fs)))
+at_first n a by [] i d e h = absurd (omega arith)
+at_first n a by (f ∷ fs) zero d e h = let t : fits n a f ≡ true = grind (arith, e) in rw t refl
+at_first n a by (f ∷ fs) (suc i) d e h =
+    let t : fits n a f ≡ false = grind (arith, e) in
+    let p : position_or_len (fits n a) fs ≡ i = grind (arith, e) in
+    rw t (ap (λ r. f ∷ r) (at_first n a by fs i d p (omega arith)))
 
--- nowhere found
-pub answered_none : (n : ℕ) (a : Link) (by : Machine) (fs : List Farewell) (i : ℕ) → length fs ≤ i → take i fs ++ answered_in n a by (drop i fs) ≡ fs
-unfolding answered_in
-answered_none n a by fs i h = rw (take_all i fs h, drop_all i fs h) (append-nil fs)
+first : (n : ℕ) (a : Link) (fs : List Farewell) (i : ℕ) → position (fits n a) fs ≡ Some i → (position_or_len (fits n a) fs ≡ i) × (i < length fs)
+first n a fs i e = grind (arith, e)
 
--- one is written anew
-pub written : (f : Farewell) (fs : List Farewell) (i : ℕ) → i < length fs → (f.awaits_after || f.awaits_controller) ≡ true
-    → take (length fs - 0) (set fs i f) ≡ take i fs ++ still_awaited f (drop (i + 1) fs)
-written f fs i h t =
-    let s : suc i ≡ i + 1 = omega arith in
+-- f awaits less
+pub answered_set : (n : ℕ) (a : Link) (by : Machine) (fs : List Farewell) (i : ℕ) (d f : Farewell) → Some i ≡ position (fits n a) fs → f ≡ less_awaited by (get_or fs i d)
+    → (f.awaits_after || f.awaits_controller) ≡ true → refill (length fs) fs (set fs i f) ≡ answered_in n a by fs
+answered_set n a by fs i d f e s t =
+    let k = first n a fs i (sym e) in
     let l = length-set fs i f in
-    rw (t, take_all (length fs - 0) (set fs i f) (omega arith), set_split fs i f h, s) refl
+    rw (l, drop_all (length fs) fs (omega arith), append-nil (set fs i f), take_all (length fs) (set fs i f) (omega arith), set_split fs i f k.1, at_first n a by fs i d k.0 k.1, sym s, t) refl
 
--- one is taken out, and what was behind it moves up
-pub moved : (f : Farewell) (fs ys : List Farewell) (i : ℕ) → i < length fs → (f.awaits_after || f.awaits_controller) ≡ false
-    → ys ≡ drop 1 (mid_of i (length fs - i) fs) ++ take 1 (mid_of i (length fs - i) fs)
-    → take (length fs - 1) (put_mid i (length fs - i) fs ys) ≡ take i fs ++ still_awaited f (drop (i + 1) fs)
-moved f fs ys i h t e =
-    let mid : mid_of i (length fs - i) fs ≡ drop i fs = take_rest fs i in
-    let one : drop 1 (mid_of i (length fs - i) fs) ≡ drop (i + 1) fs = ap (drop 1) mid ∙ drop-drop 1 i fs in
-    let front = length-append (take i fs) (drop (i + 1) fs) in
-    let a = length-take-le i fs (omega arith) in
-    let b = length-drop (i + 1) fs in
-    rw (t, e, one)
-    (ap (λ z. take (length fs - 1) (take i fs ++ z)) (append_assoc (drop (i + 1) fs) (take 1 (mid_of i (length fs - i) fs)) (post_of i (length fs - i) fs))
-    ∙ (ap (take (length fs - 1)) (sym (append_assoc (take i fs) (drop (i + 1) fs) (take 1 (mid_of i (length fs - i) fs) ++ post_of i (length fs - i) fs)))
-    ∙ take_at (take i fs ++ drop (i + 1) fs) (take 1 (mid_of i (length fs - i) fs) ++ post_of i (length fs - i) fs) (length fs - 1) (omega arith)))
-
--- a front of the array was written: it is as long as it was
-pub front_length : (fs ys : List Farewell) (k : ℕ) → length ys ≡ length (mid_of 0 (k - 0) fs) → length (ys ++ post_of 0 (k - 0) fs) ≡ length fs
-front_length fs ys k e = same_len_mid 0 (k - 0) fs ys e
-
--- and what counts of it is the rule's
-pub front_answered : (n : ℕ) (a : Link) (by : Machine) (fs ys : List Farewell) (k m j : ℕ) → j ≡ k - m → k ≤ length fs → length ys ≡ length (mid_of 0 (k - 0) fs)
-    → take (length (mid_of 0 (k - 0) fs) - m) ys ≡ answered_in n a by (mid_of 0 (k - 0) fs) → take j (ys ++ post_of 0 (k - 0) fs) ≡ answered_in n a by (take k fs)
-front_answered n a by fs ys k m j is h l e =
-    let z : k - 0 ≡ k = omega arith in
-    let w = mid_len 0 k fs h in
-    let q : length (mid_of 0 (k - 0) fs) - m ≡ j = omega arith in
-    take-append-le j ys (post_of 0 (k - 0) fs) (omega arith) ∙ (ap (λ i. take i ys) (sym q) ∙ (e ∙ ap (λ i. answered_in n a by (take i fs)) z))
+-- f awaits nothing
+pub answered_removed : (n : ℕ) (a : Link) (by : Machine) (fs : List Farewell) (i : ℕ) (d f : Farewell) → Some i ≡ position (fits n a) fs → f ≡ less_awaited by (get_or fs i d)
+    → (f.awaits_after || f.awaits_controller) ≡ false → remove fs i ≡ answered_in n a by fs
+answered_removed n a by fs i d f e s t = let k = first n a fs i (sym e) in rw (at_first n a by fs i d k.0 k.1, sym s, t) refl

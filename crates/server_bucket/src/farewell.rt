@@ -1,7 +1,7 @@
 // A forgotten place of which the place after it and the controller are told, again and again until each has answered.
 use chain::way::Link;
 
-#[derive(Clone, Copy)]
+#[derive(Clone, Copy, PartialEq, Eq, Default, Debug)]
 pub struct Farewell {
     pub place: u32,
     pub after: Link,

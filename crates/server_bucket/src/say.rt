@@ -48,17 +48,6 @@ impl Farewell {
         put_if(self.awaits_after, after, out);
         put_if(self.awaits_controller, controller, out);
     }
-
-    // The same, if it is to be said again after so many ticks.
-    fn say_if_due(self, bucket: u16, ticks: u32, out: &mut Outbox)
-        requires { 2 ≤ room_of out.old }
-        ensures items { sent_of out.new ≡ sent_of out.old ++ (if is_due ticks self.age then says bucket self else []) }
-        ensures room { room_of out.old ≤ room_of out.new + 2 }
-    {
-        if is_due(self.age, ticks) {
-            self.say(bucket, out);
-        }
-    }
 }
 
 fn put_if(awaited: bool, sent: Sent, out: &mut Outbox)
@@ -83,11 +72,14 @@ pub fn tell(bucket: u16, place: u32, gone: Option<Link>, out: &mut Outbox)
 }
 
 // What is to be said again after so many ticks; room was made for two of each.
+#[tactic(auto, unfolding(crate::specs::Rules::due_in))]
 pub fn say_due(farewells: &[Farewell], bucket: u16, ticks: u32, out: &mut Outbox)
     requires { 2 * length farewells.now ≤ room_of out.old }
     ensures { sent_of out.new ≡ sent_of out.old ++ due_in bucket ticks farewells.now }
 {
     for farewell in farewells {
-        farewell.say_if_due(bucket, ticks, out);
+        if is_due(farewell.age, ticks) {
+            farewell.say(bucket, out);
+        }
     }
 }

@@ -1,9 +1,10 @@
 // Farewells in a list.
-ghost use Rattle.std.specs.Prelude.{◌≡◌, ◌+◌, ◌-◌, ◌<◌, true, ◌&&◌, ◌||◌, ◌++◌, map, length, take, drop, if◌then◌else◌, ◌==◌};
+ghost use Rattle.std.specs.Prelude.{◌≡◌, ◌&&◌, ◌||◌, map, position, ◌==◌};
 ghost use Rattle.chain.specs.Ways.{same_link};
-ghost use Rattle.server_bucket.specs.Rules.{less_awaited, still_awaited, answered_in, older};
+ghost use Rattle.server_bucket.specs.Rules.{less_awaited, answered_in, older};
 
 use crate::farewell::Farewell;
+use arrayvec::ArrayVec;
 use chain::way::Link;
 use machine::again::aged;
 use machine::name::Machine;
@@ -30,7 +31,7 @@ impl Farewell {
     fn is_of(self, place: u32, after: Link) -> bool
         ensures { result ≡ (place == self.place && same_link after self.after) }
     {
-        place == self.place && after.same(self.after)
+        place == self.place && after == self.after
     }
 
     fn is_awaited(self) -> bool
@@ -50,40 +51,41 @@ impl Farewell {
     }
 }
 
-// One of the farewells awaits less. True, if it awaits nothing: then it is out of the list, and the last counts no more.
-fn settle(farewells: &mut [Farewell], i: usize, awaited: Farewell) -> bool
-    requires { i < length farewells.old }
-    ensures front { take (length farewells.old - (if result then 1 else 0)) farewells.new ≡ take i farewells.old ++ still_awaited awaited (drop (i + 1) farewells.old) }
-    ensures long { length farewells.new ≡ length farewells.old }
+// Where the farewell of this place stands, with this one after it.
+fn position_of(farewells: &[Farewell], place: u32, after: Link) -> Option<usize>
+    ensures { result ≡ position (λ f. place == f.place && same_link after f.after) farewells.now }
 {
-    if awaited.is_awaited() {
-        farewells[i] = awaited;
-        return false;
-    }
-    farewells[i..].rotate_left(1);
-    true
+    farewells
+        .iter()
+        .position(|farewell| farewell.is_of(place, after))
 }
 
-// The machine answers to the farewell of this place. True, if that was the last answer: then one is less, and the last of the list counts no more.
-pub fn answered_in(farewells: &mut [Farewell], place: u32, after: Link, by: Machine) -> bool
-    ensures front { take (length farewells.old - (if result then 1 else 0)) farewells.new ≡ answered_in place after by farewells.old }
-    ensures long { length farewells.new ≡ length farewells.old }
-    ensures some { result ≡ true → 0 < length farewells.old }
+// The machine answers to the farewell of this place, which goes if that was the last answer.
+#[tactic(auto, using(crate::proofs::Settled::answered_none, crate::proofs::Settled::answered_set, crate::proofs::Settled::answered_removed))]
+pub fn answered_in<const N: usize>(
+    farewells: &mut ArrayVec<Farewell, N>,
+    place: u32,
+    after: Link,
+    by: Machine,
+)
+    ensures { farewells.new.items ≡ answered_in place after by farewells.old.items }
 {
-    for i in 0..farewells.len() {
-        if farewells[i].is_of(place, after) {
-            let awaited = farewells[i].answered(by);
-            return settle(farewells, i, awaited);
-        }
+    let Some(i) = position_of(farewells, place, after) else {
+        return;
+    };
+    let awaited = farewells[i].answered(by);
+    if awaited.is_awaited() {
+        farewells[i] = awaited;
+    } else {
+        farewells.remove(i);
     }
-    false
 }
 
 // So many ticks pass.
 pub fn pass(farewells: &mut [Farewell], ticks: u32)
     ensures { farewells.new ≡ map (older ticks) farewells.old }
 {
-    for i in 0..farewells.len() {
-        farewells[i] = farewells[i].later(ticks);
+    for farewell in farewells.iter_mut() {
+        *farewell = farewell.later(ticks);
     }
 }

@@ -1,9 +1,6 @@
 -- What a stopped step leaves, and what a packet that goes on is. Assumes nothing.
-use Rattle.std.proofs.Common.{◌≡◌, ℕ, ◌+◌, ◌^◌, ◌<◌, Bool, true, false, cond, ltb, List, [], ◌∷◌, ◌++◌, map, length, take, Some, None, Ok, Err, Result, sym, refl, ap, ◌∙◌, subst, inl, inr, append_assoc, append-nil, arith}
-use Rattle.std.proofs.lemmas.List.{take_at}
-use Rattle.std.proofs.lemmas.Bool.{lt-ltb}
+use Rattle.std.proofs.Common.{◌≡◌, ℕ, Bool, true, false, cond, List, ◌∷◌, ◌++◌, Some, None, Ok, Err, Result, sym, refl, ap, ◌∙◌, inl, inr, append-nil, arith}
 use Rattle.fault.specs.declared.Fault.{Fault}
-use Rattle.fault.specs.declared.Fault.TheVariants.{NoSuch}
 use Rattle.fault.specs.declared.Error.{Error}
 use Rattle.fault.specs.declared.Error.TheVariants.{Of, Memory}
 use Rattle.sessions.specs.declared.entry.Entry.{Entry}
@@ -12,8 +9,6 @@ use Rattle.chain.specs.declared.way.Link.{Link}
 use Rattle.chain.specs.declared.way.Way.{Way}
 use Rattle.flow.specs.declared.key.FlowKey.{FlowKey}
 use Rattle.wire.specs.declared.message.Head.{Head}
-use Rattle.wire.specs.declared.message.Order.{Order}
-use Rattle.wire.specs.declared.message.Order.TheVariants as order
 use Rattle.wire.specs.declared.message.Unread.{Unread}
 use Rattle.wire.specs.Forwarding.{forwarded, Forwards}
 use Rattle.wire.specs.Laws.{Bytes}
@@ -26,13 +21,11 @@ use Rattle.machine.specs.declared.sent.Sent.{Sent}
 use Rattle.machine.specs.Steps.{Did}
 use Rattle.edge.specs.declared.sort.Role.TheVariants as role
 use Rattle.edge.specs.Posts.{Mail, mail, Sends}
-use Rattle.edge.specs.Admission.{refusal, takes, kind_in, mail_in, Stops}
+use Rattle.edge.specs.Admission.{refusal, takes, kind_in, Stops}
 use Rattle.edge.specs.Sorts.{Carries, Refuses, read_as, sort}
-use Rattle.server.specs.Kept.{Obeys}
-use Rattle.server.specs.Rules as rules
-use Rattle.server.specs.Rules.{Keeping, Handled, ticked}
+use Rattle.server.specs.Rules.{Keeping, Handled}
 use Rattle.server.specs.declared.passed.Passed.{Passed}
-use Rattle.server_edge.specs.Bytes.{Step, step_of, orderly, passing, obeys, moved, back_of, hint_of, passes, tells, forwarded_to, Takes, Hears, CarriesIn}
+use Rattle.server_edge.specs.Bytes.{Step, moved, back_of, hint_of, passes, tells, forwarded_to, Takes, Hears, CarriesIn}
 
 refused_takes : (from : Machine) (bs : List ℕ) (f : Fault) (r : Result (Unit {0}) Error) (k k' : Keeping) (es es' : List Entry) (was after : List Mail)
     → k' ≡ k → es' ≡ es → Sends (refusal from f bs) r was after → Takes (tells from bs k (Err f)) r k k' es es' was after
@@ -50,16 +43,6 @@ told_stopped (Ok p) (Of g) from bs r k k' es es' said said' was after d same h =
 told_stopped (Ok p) Memory from bs r k k' es es' said said' was after d same h = short_takes (tells from bs k (Ok p)) r k k' es es' was after d.0 same h
 told_stopped (Err f) (Of g) from bs r k k' es es' said said' was after d same h = refused_takes from bs f r k k' es es' was after d.1 same (rw d.0 at h)
 told_stopped (Err f) Memory from bs r k k' es es' said said' was after d same h = short_takes (tells from bs k (Err f)) r k k' es es' was after d.0 same h
-
--- what was posted before is taken back
-pub cut_back : (mails other done : List Mail) (e : Error) (was out out' after : List Mail) (n : ℕ)
-    → out ≡ was ++ done → Sends other (Err e) out out' → after ≡ take n out' → n ≡ length was → Sends mails (Err e) was after
-cut_back mails other done Memory was out out' after n e s cut l = cut ∙ (ap (take n) (s ∙ e) ∙ take_at was done n (sym l))
-cut_back mails other done (Of f) was out out' after n e s cut l = s
-
--- one after the other
-pub both : (m : Mail) (more was out after : List Mail) → out ≡ was ++ m ∷ [] → after ≡ out ++ more → after ≡ was ++ m ∷ more
-both m more was out after e g = g ∙ (ap (λ l. l ++ more) e ∙ append_assoc was (m ∷ []) more)
 
 -- WHAT A PACKET THAT GOES ON IS
 
@@ -120,36 +103,3 @@ pub told_hears : (t : Result (List Sent × Keeping) Fault) (from : Machine) (bs 
     → bs' ≡ bs → Takes (tells from bs k t) (Ok tt) k k' es es' was after → Hears (tells from bs k t) (Ok None) k k' es es' was after bs bs'
 told_hears (Ok p) from bs bs' k k' es es' was after b d = (refl, d.0, d.1, d.2, b)
 told_hears (Err f) from bs bs' k k' es es' was after b d = (refl, d.0, d.1, d.2, b)
-
-pub copied : (l : Link) (w : Way) (bs bs' : List ℕ) (was after : List Mail) → bs' ≡ (forwarded l.place w bs).1
-    → after ≡ was ++ record { to = Server l.server; bytes = bs' } ∷ [] → after ≡ was ++ forwarded_to l w bs ∷ []
-copied l w bs bs' was after e p = rw e at p
-
--- ORDERS
-
-obeyed : (o : rules.Ordered) (bs : List ℕ) (r : Result (Unit {0}) Error) (k k' : Keeping) (es es' : List Entry) (said : List Sent) (was after : List Mail)
-    → Obeys o (Ok tt) k k' es es' [] said → Sends (map mail_in said) r was after → Takes (orderly bs o) r k k' es es' was after
-obeyed o bs (Ok u) k k' es es' said was after d s = (d.0, d.1, s ∙ ap (λ x. was ++ map mail_in x) d.2)
-obeyed o bs (Err Memory) k k' es es' said was after d s = (s, inr (d.0, d.1))
-obeyed o bs (Err (Of f)) k k' es es' said was after d s = s
-
--- the clock holds the sum
-pub passed : (from : Machine) (bs : List ℕ) (n : ℕ) (r : Result (Unit {0}) Error) (k k' : Keeping) (es es' : List Entry) (start said all : List Sent) (was after : List Mail)
-    → k.tick + n < 2 ^ 64 → start ≡ [] → Obeys (ticked n k es) (Ok tt) k k' es es' start said → all ≡ said → Sends (map mail_in all) r was after → Takes (passing from bs n k es) r k k' es es' was after
-passed from bs n r k k' es es' start said all was after h z d same s =
-    let d' : Obeys (ticked n k es) (Ok tt) k k' es es' [] said = rw z at d in
-    let s' : Sends (map mail_in said) r was after = rw same at s in
-    subst (λ q. Takes (cond q (orderly bs (ticked n k es)) (step_of (refusal from NoSuch bs) k bs)) r k k' es es' was after) (sym (lt-ltb (k.tick + n) (2 ^ 64) h)) (obeyed (ticked n k es) bs r k k' es es' said was after d' s')
-
-test_hears : (q : Bool) (s t : Step) (bs : List ℕ) (k k' : Keeping) (es es' : List Entry) (was after : List Mail) → s.outcome ≡ None → t.outcome ≡ None → s.lent ≡ bs → t.lent ≡ bs
-    → Takes (cond q s t) (Ok tt) k k' es es' was after → Hears (cond q s t) (Ok None) k k' es es' was after bs bs
-test_hears true s t bs k k' es es' was after o p l m d = (sym o, d.0, d.1, d.2, sym l)
-test_hears false s t bs k k' es es' was after o p l m d = (sym p, d.0, d.1, d.2, sym m)
-
-pub obeyed_hears : (o : Order) (from : Machine) (bs : List ℕ) (k k' : Keeping) (es es' : List Entry) (was after : List Mail)
-    → Takes (obeys from bs k es o) (Ok tt) k k' es es' was after → Hears (obeys from bs k es o) (Ok None) k k' es es' was after bs bs
-obeyed_hears (order.Closed flow) from bs k k' es es' was after d = (refl, d.0, d.1, d.2, refl)
-obeyed_hears (order.Added s) from bs k k' es es' was after d = (refl, d.0, d.1, d.2, refl)
-obeyed_hears (order.Removed s) from bs k k' es es' was after d = (refl, d.0, d.1, d.2, refl)
-obeyed_hears (order.Ticks n) from bs k k' es es' was after d =
-    test_hears (ltb (k.tick + n) (2 ^ 64)) (orderly bs (ticked n k es)) (step_of (refusal from NoSuch bs) k bs) bs k k' es es' was after refl refl refl refl d

@@ -26,8 +26,11 @@ use machine::sent::Sent;
 use server::kept::Server;
 use server::passed::Passed;
 use std::alloc::Global;
+use wire::kind::{Kind, Topic};
 use wire::message::{At, Control, Head, Order, Unread};
 use wire_write::forward::forward;
+
+// The server and the post go along as two references: of a struct that lends both, each contract would also have to say that it keeps both.
 
 // A packet is handled, and goes back to the client if it is refused.
 fn pass(
@@ -151,19 +154,24 @@ fn obey(
     }
 }
 
-// The kinds of what is for a place of this server.
-const PACKET: u8 = 1;
-
-const BEHIND: u8 = 3;
+// Is this the kind of what is for a place of this server?
+fn is_for_place(kind: u8) -> bool
+    ensures { result ≡ is_for_place kind }
+{
+    matches!(
+        Kind::try_from(kind),
+        Ok(Kind::Packet | Kind::Control(Topic::Behind))
+    )
+}
 
 // Is it for a place that this server does not know? Then it is as if lost.
 fn is_lost(server: &Server, kind: u8, at: Option<At>) -> bool
     ensures { result ≡ (is_for_place kind && is_unknown at (keeping server.now)) }
 {
-    match at {
-        Some(at) => { (kind == PACKET || kind == BEHIND) && !server.knows(at.bucket, at.place) }
-        None => false,
-    }
+    let Some(at) = at else {
+        return false;
+    };
+    is_for_place(kind) && !server.knows(at.bucket, at.place)
 }
 
 // What is no message is refused.

@@ -96,8 +96,8 @@ bounded_set ss s j bs bs' h b low f i =
 
 pub changed_holds : (ss : List (List Entry)) (s : List Entry) (ts ts' : List (List Tally)) (n n' o o' : ℕ) (bs bs' : List ℕ) (k : Key) (w : Option ℕ) → Holds ss ts n o bs
     → Filed (slot_of k) s → Changed (get_or ss (slot_of k) []) s k w → Fresh o' s → o' ≤ o → length ts' ≡ 65536 → Retallied ts ts' k (seen_in k (flat ss)) w
-    → n' + one (seen_in k (flat ss)) ≡ n + one w → n' ≤ 65536 → length bs' ≡ 4096 → ((g : ℕ) → get_or bs' g 0 ≤ get_or bs g 0) → Fresh (get_or bs' (slot_of k / 16) 0) s → Holds (set ss (slot_of k) s) ts' n' o' bs'
-changed_holds ss s ts ts' n n' o o' bs bs' k w hold f c a le l r m few lb low fb =
+    → n' + one (seen_in k (flat ss)) ≡ n + one w → n' ≤ 65536 → ((g : ℕ) → get_or bs' g 0 ≤ get_or bs g 0) → Fresh (get_or bs' (slot_of k / 16) 0) s → Holds (set ss (slot_of k) s) ts' n' o' bs'
+changed_holds ss s ts ts' n n' o o' bs bs' k w hold f c a le l r m few low fb =
     let t = tidy_in 0 ss hold.filing.1 in
     let all = changed_all ss s k w t hold.filing.0 f c in
     let old = fresh_in o (flat ss) hold.ages in
@@ -107,6 +107,5 @@ changed_holds ss s ts ts' n n' o o' bs bs' k w hold f c a le l r m few lb low fb
       lists = l;
       places = λ b p h. omega (arith, r b p h, all.counts b p, hold.places b p h);
       ages = fresh_out o' (flat (set ss (slot_of k) s)) (all_flat_set (λ e. o' ≤ e.seen) ss (slot_of k) s a (All-weaker (λ e. o ≤ e.seen) (λ e. o' ≤ e.seen) (λ e x. omega arith) (flat ss) old));
-      groups = lb;
       limits = bounded_set ss s (slot_of k) bs bs' (omega (arith, slot_below k, hold.filing.0)) hold.limits low fb;
     }

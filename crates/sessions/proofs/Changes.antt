@@ -2,36 +2,50 @@
 use Rattle.std.proofs.Common.{◌≡◌, ℕ, zero, suc, ◌+◌, Bool, true, cond, List, [], ◌∷◌, ◌++◌, length, get_or, set, Some, None, sym, refl, ap, ◌∙◌, inl, inr, arith}
 use Rattle.std.proofs.lemmas.Bool.{cases_Bool}
 use Rattle.std.proofs.lemmas.List.Sums.{sum_by-cons}
-use Rattle.std.specs.List.{remove, AllByRecursion as All}
+use Rattle.std.specs.List.{remove, find, position, AllByRecursion as All}
+use Rattle.std.specs.Option.{option_map}
 use Rattle.sessions.specs.declared.key.Key.{Key}
 use Rattle.sessions.specs.declared.entry.Entry.{Entry}
 use Rattle.sessions.specs.Keys.{same_key, in_place}
 use Rattle.sessions.specs.Found.{Misses, HitAt}
 use Rattle.sessions.specs.Entries.{seen_in, Once, without, noted, count_in}
 use Rattle.sessions.proofs.Same.{same_eq, same_flip}
-use Rattle.sessions.proofs.Lists.{misses_rest, hit_rest}
+use Rattle.sessions.proofs.Lists.{misses, hit, misses_rest, hit_rest}
 
 abbrev has : Key → Entry → Bool
 has k e = same_key e.key k
 
-pub seen_miss : (k : Key) (es : List Entry) → Misses (λ e. same_key e.key k) es → seen_in k es ≡ None
-seen_miss k [] m = refl
-seen_miss k (e ∷ es) m = rw (m 0 e (omega arith)) (seen_miss k es (misses_rest (has k) e es m))
+seen_missed : (k : Key) (es : List Entry) → Misses (has k) es → seen_in k es ≡ None
+seen_missed k [] m = refl
+seen_missed k (e ∷ es) m = rw (m 0 e (omega arith)) (seen_missed k es (misses_rest (has k) e es m))
 
-pub seen_hit : (k : Key) (es : List Entry) (i : ℕ) → HitAt (λ e. same_key e.key k) es i → (d : Entry) → seen_in k es ≡ Some (get_or es i d).seen
-seen_hit k [] i m d = absurd (omega (arith, m.0))
-seen_hit k (e ∷ es) zero m d = rw (m.1 d)
-seen_hit k (e ∷ es) (suc i) m d = rw (m.2 0 e (omega arith)) (seen_hit k es i (hit_rest (has k) e es i m) d)
+seen_at : (k : Key) (es : List Entry) (i : ℕ) (d : Entry) → HitAt (has k) es i → seen_in k es ≡ Some (get_or es i d).seen
+seen_at k [] i d m = absurd (omega (arith, m.0))
+seen_at k (e ∷ es) zero d m = rw (m.1 d)
+seen_at k (e ∷ es) (suc i) d m = rw (m.2 0 e (omega arith)) (seen_at k es i d (hit_rest (has k) e es i m))
 
-pub noted_hit : (k : Key) (t : ℕ) (es : List Entry) (i : ℕ) → HitAt (λ e. same_key e.key k) es i → set es i (record { key = k; seen = t }) ≡ noted k t es
-noted_hit k t [] i m = absurd (omega (arith, m.0))
-noted_hit k t (e ∷ es) zero m = rw (m.1 e)
-noted_hit k t (e ∷ es) (suc i) m = rw (m.2 0 e (omega arith)) (ap (λ r. e ∷ r) (noted_hit k t es i (hit_rest (has k) e es i m)))
+noted_at : (k : Key) (t : ℕ) (es : List Entry) (i : ℕ) → HitAt (has k) es i → set es i (record { key = k; seen = t }) ≡ noted k t es
+noted_at k t [] i m = absurd (omega (arith, m.0))
+noted_at k t (e ∷ es) zero m = rw (m.1 e)
+noted_at k t (e ∷ es) (suc i) m = rw (m.2 0 e (omega arith)) (ap (λ r. e ∷ r) (noted_at k t es i (hit_rest (has k) e es i m)))
 
-pub without_hit : (k : Key) (es : List Entry) (i : ℕ) → HitAt (λ e. same_key e.key k) es i → remove es i ≡ without k es
-without_hit k [] i m = absurd (omega (arith, m.0))
-without_hit k (e ∷ es) zero m = rw (m.1 e)
-without_hit k (e ∷ es) (suc i) m = rw (m.2 0 e (omega arith)) (ap (λ r. e ∷ r) (without_hit k es i (hit_rest (has k) e es i m)))
+without_at : (k : Key) (es : List Entry) (i : ℕ) → HitAt (has k) es i → remove es i ≡ without k es
+without_at k [] i m = absurd (omega (arith, m.0))
+without_at k (e ∷ es) zero m = rw (m.1 e)
+without_at k (e ∷ es) (suc i) m = rw (m.2 0 e (omega arith)) (ap (λ r. e ∷ r) (without_at k es i (hit_rest (has k) e es i m)))
+
+-- what the place of a key says
+pub seen_miss : (k : Key) (es : List Entry) → position (has k) es ≡ None → seen_in k es ≡ None
+seen_miss k es n = seen_missed k es (misses (has k) es n)
+
+pub seen_hit : (k : Key) (es : List Entry) (i : ℕ) → position (has k) es ≡ Some i → (d : Entry) → seen_in k es ≡ Some (get_or es i d).seen
+seen_hit k es i h d = seen_at k es i d (hit (has k) es i h)
+
+pub noted_hit : (k : Key) (t : ℕ) (es : List Entry) (i : ℕ) (d : Entry) → position (has k) es ≡ Some i → d ≡ get_or es i d → set es i (record { key = d.key; seen = t }) ≡ noted k t es
+noted_hit k t es i d h g = let m = hit (has k) es i h in rw (same_eq d.key k (ap (has k) g ∙ m.1 d)) (noted_at k t es i m)
+
+pub without_hit : (k : Key) (es : List Entry) (i : ℕ) → position (has k) es ≡ Some i → remove es i ≡ without k es
+without_hit k es i h = without_at k es i (hit (has k) es i h)
 
 pub without_miss : (k : Key) (es : List Entry) → seen_in k es ≡ None → without k es ≡ es
 without_miss k [] m = refl
@@ -40,6 +54,10 @@ without_miss k (e ∷ es) m = let ih = without_miss k es in grind arith
 pub noted_miss : (k : Key) (t : ℕ) (es : List Entry) → seen_in k es ≡ None → noted k t es ≡ es
 noted_miss k t [] m = refl
 noted_miss k t (e ∷ es) m = let ih = noted_miss k t es in grind arith
+
+pub seen_find : (k : Key) (es : List Entry) → seen_in k es ≡ option_map (λ e. e.seen) (find (has k) es)
+seen_find k [] = refl
+seen_find k (e ∷ es) = elim (cases_Bool (same_key e.key k)) [ inl y ↦ rw y | inr n ↦ rw n (seen_find k es) ]
 
 -- what is found afterwards
 same_at : (a b q : Key) → same_key a b ≡ true → same_key a q ≡ same_key b q

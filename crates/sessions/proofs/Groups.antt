@@ -1,9 +1,11 @@
 -- Groups of sixteen slots and their bounds. Assumes nothing.
-use Rattle.std.proofs.Common.{◌≡◌, ℕ, suc, ◌+◌, ◌-◌, ◌*◌, ◌/◌, ◌<◌, ◌≤◌, false, List, [], ◌∷◌, ◌++◌, map, length, get_or, take, drop, set, vec_items, Vec, sym, refl, ap, ◌∙◌, inl, inr, append_assoc, arith}
-use Rattle.std.proofs.lemmas.List.{take-append-drop, drop-drop, map-append, take-map, drop-map, get_or-take, get_or-drop, get_or_past, get_or-set_same, get_or-set_other, length-take}
+use Rattle.std.proofs.Common.{◌≡◌, ℕ, zero, suc, ◌+◌, ◌-◌, ◌*◌, ◌/◌, ◌<◌, ◌≤◌, false, List, [], ◌∷◌, ◌++◌, map, length, get_or, take, drop, set, vec_items, Vec, sym, refl, ap, ◌∙◌, inl, inr, append_assoc, arith}
+use Rattle.std.proofs.lemmas.List.{take-append-drop, take_all, drop_all, append-nil, drop-drop, map-append, take-map, drop-map, get_or-take, get_or-drop, get_or_past, get_or-set_same, get_or-set_other, length-take}
 use Rattle.std.proofs.ByRecursion.{All-append, All-weaker}
 use Rattle.std.proofs.lemmas.Bool.{cases_eq, cases_lt}
 use Rattle.std.specs.declared.alloc.Global.{Global}
+use Rattle.std.specs.List.{flat_map}
+use Rattle.std.specs.Simd.{first_chunks}
 use Rattle.sessions.specs.declared.key.Key.{Key}
 use Rattle.sessions.specs.declared.entry.Entry.{Entry}
 use Rattle.sessions.specs.Entries.{is_idle, idle_keys}
@@ -15,6 +17,10 @@ use Rattle.sessions.proofs.Lapse.{keys_append, fresh_keys}
 flat_append : (xs ys : List (List Entry)) → flat (xs ++ ys) ≡ flat xs ++ flat ys
 flat_append [] ys = refl
 flat_append (x ∷ xs) ys = ap (λ r. x ++ r) (flat_append xs ys) ∙ sym (append_assoc x (flat xs) (flat ys))
+
+pub flat_items : (vs : List (Vec Entry Global)) → flat_map vec_items vs ≡ flat (map vec_items vs)
+flat_items [] = refl
+flat_items (v ∷ vs) = ap (λ r. vec_items v ++ r) (flat_items vs)
 
 -- the next group, and what is behind it
 behind : (vs : List (Vec Entry Global)) (a : ℕ) → flat (map vec_items (drop a vs)) ≡ flat (map vec_items (take 16 (drop a vs))) ++ flat (map vec_items (drop (a + 16) vs))
@@ -38,6 +44,13 @@ pub group_yes : (now : ℕ) (out out' : List Key) (vs : List (Vec Entry Global))
 group_yes now out out' vs g e =
     ap (λ o. o ++ idle_keys now (flat (map vec_items (drop ((g + 1) * 16) vs)))) e
     ∙ (append_assoc out (idle_keys now (group_of vs g)) (idle_keys now (flat (map vec_items (drop ((g + 1) * 16) vs)))) ∙ ap (λ o. out ++ o) (sym (next_names now vs g)))
+
+pub chunk_at : (n g : ℕ) (vs d : List (Vec Entry Global)) → g < n → get_or (first_chunks 16 n vs) g d ≡ take 16 (drop (g * 16) vs)
+chunk_at zero g vs d h = absurd (omega arith)
+chunk_at (suc n) zero vs d h = refl
+chunk_at (suc n) (suc g) vs d h =
+    let e : suc g * 16 ≡ 16 + g * 16 = omega arith in
+    chunk_at n g (drop 16 vs) d (omega (arith, h)) ∙ (ap (take 16) (drop-drop (g * 16) 16 vs) ∙ rw e refl)
 
 -- a group whose bound is not an hour old has no idle session
 none_in : (now b : ℕ) (ss : List (List Entry)) → is_idle now b ≡ false → ((j : ℕ) → Fresh b (get_or ss j [])) → idle_keys now (flat ss) ≡ []
@@ -63,9 +76,6 @@ parts vs a = sym (take-map vec_items 16 (drop a vs)) ∙ ap (take 16) (sym (drop
 pub group_no : (now : ℕ) (vs : List (Vec Entry Global)) (bs : List ℕ) (g : ℕ) → Bounded (map vec_items vs) bs → is_idle now (get_or bs g 0) ≡ false → idle_keys now (group_of vs g) ≡ []
 group_no now vs bs g b h =
     rw (parts vs (g * 16)) (none_in now (get_or bs g 0) (take 16 (drop (g * 16) (map vec_items vs))) h (group_fresh (map vec_items vs) bs g b))
-
-pub bounded_moved : (vs vs' : List (Vec Entry Global)) (bs bs' : List ℕ) → vs' ≡ vs → bs' ≡ bs → Bounded (map vec_items vs) bs → Bounded (map vec_items vs') bs'
-bounded_moved vs vs' bs bs' e f b = rw (e, f) b
 
 -- a bound made anew
 pub renewed : (vs : List (Vec Entry Global)) (bs : List ℕ) (g r : ℕ) → length bs ≡ 4096 → g < 4096 → Bounded (map vec_items vs) bs → Fresh r (group_of vs g) → Bounded (map vec_items vs) (set bs g r)
@@ -93,3 +103,7 @@ under_all o ss bs l b le i =
           All-weaker (λ e. get_or bs (i / 16) 0 ≤ e.seen) (λ e. o ≤ e.seen) (λ e x. omega (arith, le (i / 16) (omega arith))) (get_or ss i []) (fresh_in (get_or bs (i / 16) 0) (get_or ss i []) (b i))
       | inr n ↦ (let e : get_or ss i [] ≡ [] = get_or_past ss i [] (omega arith) in rw e tt)
     ]
+
+-- all items of a list that was written over
+pub written : (n : ℕ) (xs ys : List ℕ) → length xs ≡ n → length ys ≡ n → take n (xs ++ drop (length xs) ys) ≡ xs
+written n xs ys e f = rw (drop_all (length xs) ys (omega (arith, e, f)), append-nil xs) (take_all n xs (omega (arith, e)))

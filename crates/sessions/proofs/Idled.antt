@@ -8,7 +8,7 @@ use Rattle.sessions.specs.declared.entry.Entry.{Entry}
 use Rattle.sessions.specs.declared.store.Sessions.{Sessions}
 use Rattle.sessions.specs.Entries.{seen_in, Once, without, is_idle, idle_keys, staying}
 use Rattle.sessions.specs.Slots.{flat, Ascending}
-use Rattle.sessions.specs.Kept.{Grouped, Bounded}
+use Rattle.sessions.specs.Kept.{Bounded}
 use Rattle.sessions.specs.Model.{entries_of, Lapsed, Lapsing}
 use Rattle.sessions.proofs.Files.{Fresh, tidy_in, fresh_in, fresh_out, once_flat, ascends_flat}
 use Rattle.sessions.proofs.Stores.{Holds}
@@ -44,13 +44,12 @@ pub lapsing_refused : (t : ℕ) (was after : List Entry) (r : Result (Vec Key Gl
 lapsing_refused t was after r e x = let z : r ≡ Err Memory = x.1 ∙ ap Err x.2 in rw z (refl, e)
 
 -- the fields afterwards
-pub idle_holds : (s : Sessions) (o : ℕ) (bs : List ℕ) → Grouped bs → Bounded (slots_of s) bs → ((g : ℕ) → g < 4096 → o ≤ get_or bs g 0) → Holds (slots_of s) (tallies_of s) s.len o bs
-idle_holds s o bs l b le = record {
+pub idle_holds : (s : Sessions) (o : ℕ) (bs : List ℕ) → Bounded (slots_of s) bs → ((g : ℕ) → g < 4096 → o ≤ get_or bs g 0) → Holds (slots_of s) (tallies_of s) s.len o bs
+idle_holds s o bs b le = record {
   filing = s.filing;
   number = s.number;
   lists = s.lists;
   places = s.places;
   ages = fresh_out o (flat (slots_of s)) (fresh_flat o (slots_of s) (under_all o (slots_of s) bs s.filing.0 b le));
-  groups = l;
   limits = b;
 }

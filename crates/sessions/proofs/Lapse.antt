@@ -1,15 +1,14 @@
 -- What is idle goes, and what is not stays: lists, a walk through them, and one name after the other. Assumes nothing.
 use Rattle.std.proofs.Common.{◌≡◌, ℕ, ◌+◌, ◌<◌, ◌≤◌, min, true, false, List, [], ◌∷◌, ◌++◌, map, length, get_or, drop, None, vec_items, fold, Vec, sym, refl, ap, ◌∙◌, inl, inr, append_assoc, arith}
-use Rattle.std.proofs.lemmas.List.{drop_more}
 use Rattle.std.proofs.lemmas.Bool.{cases_Bool, lt-leb, leb-false}
-use Rattle.std.specs.declared.alloc.Global.{Global}
 use Rattle.std.specs.List.{AllByRecursion as All}
+use Rattle.std.specs.declared.alloc.Global.{Global}
+use Rattle.sessions.specs.Slots.{flat}
+use Rattle.std.proofs.lemmas.List.{drop_more}
 use Rattle.sessions.specs.declared.key.Key.{Key}
 use Rattle.sessions.specs.declared.entry.Entry.{Entry}
 use Rattle.sessions.specs.Keys.{same_key}
 use Rattle.sessions.specs.Entries.{seen_in, Once, without, is_idle, idle_keys, staying, lapsed}
-use Rattle.sessions.specs.Ages.{least_of}
-use Rattle.sessions.specs.Slots.{flat}
 use Rattle.sessions.proofs.Same.{same_eq, same_refl, same_flip}
 use Rattle.sessions.proofs.Files.{Fresh}
 
@@ -22,16 +21,12 @@ pub keys_append : (now : ℕ) (xs ys : List Entry) → idle_keys now (xs ++ ys) 
 keys_append now [] ys = refl
 keys_append now (x ∷ xs) ys = let ih = keys_append now xs ys in elim (cases_Bool (is_idle now x.seen)) [ inl y ↦ rw y (ap (λ r. x.key ∷ r) ih) | inr n ↦ rw n ih ]
 
-pub least_append : (o : ℕ) (xs ys : List Entry) → least_of o (xs ++ ys) ≡ least_of (least_of o xs) ys
-least_append o [] ys = refl
-least_append o (x ∷ xs) ys = least_append (min o x.seen) xs ys
-
 -- the least tick is a lower bound
-least_le : (o : ℕ) (es : List Entry) → least_of o es ≤ o
+least_le : (o : ℕ) (es : List Entry) → fold (λ m e. min m e.seen) o es ≤ o
 least_le o [] = omega arith
 least_le o (e ∷ es) = omega (arith, least_le (min o e.seen) es)
 
-pub least_fresh : (o : ℕ) (es : List Entry) → Fresh (least_of o es) es
+pub least_fresh : (o : ℕ) (es : List Entry) → Fresh (fold (λ m e. min m e.seen) o es) es
 least_fresh o [] = tt
 least_fresh o (e ∷ es) = (omega (arith, least_le (min o e.seen) es), least_fresh (min o e.seen) es)
 
@@ -96,7 +91,3 @@ pub names_slot : (now : ℕ) (out : List Key) (vs : List (Vec Entry Global)) (i 
 names_slot now out vs i v h g =
     append_assoc out (idle_keys now (vec_items v)) (idle_keys now (flat (map vec_items (drop (i + 1) vs))))
     ∙ ap (λ ks. out ++ ks) (sym (keys_append now (vec_items v) (flat (map vec_items (drop (i + 1) vs)))) ∙ ap (idle_keys now) (sym (flat_more vs i v h g)))
-
-pub least_slot : (o : ℕ) (vs : List (Vec Entry Global)) (i : ℕ) (v : Vec Entry Global) → i < length vs → v ≡ get_or vs i v
-    → least_of (least_of o (vec_items v)) (flat (map vec_items (drop (i + 1) vs))) ≡ least_of o (flat (map vec_items (drop i vs)))
-least_slot o vs i v h g = sym (least_append o (vec_items v) (flat (map vec_items (drop (i + 1) vs)))) ∙ ap (least_of o) (sym (flat_more vs i v h g))

@@ -1,11 +1,28 @@
 -- Two keys that the test takes for the same are equal, and each is the same as itself. Assumes nothing.
+use Rattle.std.specs.Prelude.{◌==◌}
 use Rattle.std.proofs.Common.{◌≡◌, ℕ, ◌+◌, ◌*◌, ◌^◌, ◌<◌, true, sym, refl, ◌∙◌, inl, inr, arith}
 use Rattle.std.proofs.lemmas.Bool.{cases_Bool, and_parts, and_from, eqb-true, eq-eqb}
 use Rattle.flow.specs.declared.key.FlowKey.{FlowKey}
+use Rattle.flow.specs.declared.key.Protocol.{Protocol}
+use Rattle.flow.specs.declared.key.Protocol.TheVariants.{Tcp, Udp}
+use Rattle.flow.specs.Key as flow
 use Rattle.flow.specs.Key.{protocol_number}
+use Rattle.flow.specs.contracts.key.ProtocolPartialEq.TheImpl as protocol_eq
 use Rattle.flow.proofs.Same as flows
+use Rattle.sessions.specs.contracts.key.KeyPartialEq.TheImpl as key_eq
 use Rattle.sessions.specs.declared.key.Key.{Key}
 use Rattle.sessions.specs.Keys.{same_key, slot_of, weigh}
+
+-- what `==` computes
+same_protocol : (p q : Protocol) → (protocol_eq.ghosts).eq p q ≡ (protocol_number p == protocol_number q)
+same_protocol Tcp Tcp = refl
+same_protocol Tcp Udp = refl
+same_protocol Udp Tcp = refl
+same_protocol Udp Udp = refl
+
+pub equal : (a b : Key) → (key_eq.ghosts).eq a b ≡ same_key a b
+unfolding same_key flow.same_flow
+equal a b = rw (same_protocol a.flow.protocol b.flow.protocol) refl
 
 abbrev key_of : ℕ → ℕ → FlowKey → Key
 key_of b p f = record { bucket = b; place = p; flow = f }

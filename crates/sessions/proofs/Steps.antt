@@ -36,10 +36,10 @@ abbrev pub tallies_of : Sessions → List (List Tally)
 tallies_of s = map vec_items (vec_items s.tallies)
 
 abbrev pub bounds_of : Sessions → List ℕ
-bounds_of s = vec_items s.bounds
+bounds_of s = vec_items s.bounds.ticks
 
 pub holds : (s : Sessions) → Holds (slots_of s) (tallies_of s) s.len s.oldest (bounds_of s)
-holds s = record { filing = s.filing; number = s.number; lists = s.lists; places = s.places; ages = s.ages; groups = s.groups; limits = s.limits }
+holds s = record { filing = s.filing; number = s.number; lists = s.lists; places = s.places; ages = s.ages; limits = s.limits }
 
 pub len_is : (s : Sessions) → (s.len ≡ length (entries_of s)) × (s.len ≤ 65536)
 unfolding entries_of
@@ -82,7 +82,7 @@ pub record Step (s : Sessions) (k : Key) (w : Option ℕ) (ss : List (List Entry
 
 -- bounds that a slot's new entries allow
 abbrev Within : Sessions → Key → List Entry → List ℕ → Type 0
-Within s k es bs = (length bs ≡ 4096) × ((g : ℕ) → get_or bs g 0 ≤ get_or (bounds_of s) g 0) × Fresh (get_or bs (slot_of k / 16) 0) es
+Within s k es bs = ((g : ℕ) → get_or bs g 0 ≤ get_or (bounds_of s) g 0) × Fresh (get_or bs (slot_of k / 16) 0) es
 
 -- the bounds after a packet, and as they were
 home_bound : (s : Sessions) (k : Key) (b : ℕ) → b ≤ get_or (bounds_of s) (slot_of k / 16) 0 → Fresh b (home s k)
@@ -97,7 +97,7 @@ step_list : (s : Sessions) (k : Key) (w : Option ℕ) (es : List Entry) (ts : Li
     → length ts ≡ 65536 → Retallied (tallies_of s) ts k (seen_in k (flat (slots_of s))) w → n + one (seen_in k (flat (slots_of s))) ≡ s.len + one w → n ≤ 65536 → Within s k es bs
     → Step s k w (set (slots_of s) (slot_of k) es) ts n o bs
 step_list s k w es ts n o bs f c a le l r m few lim = record {
-  hold = changed_holds (slots_of s) es (tallies_of s) ts s.len n s.oldest o (bounds_of s) bs k w (holds s) f c a le l r m few lim.0 lim.1 lim.2;
+  hold = changed_holds (slots_of s) es (tallies_of s) ts s.len n s.oldest o (bounds_of s) bs k w (holds s) f c a le l r m few lim.0 lim.1;
   change = changed_all (slots_of s) es k w (tidy_in 0 (slots_of s) s.filing.1) s.filing.0 f c;
 }
 
@@ -127,7 +127,7 @@ touch_step s k t o i v v' bs e g h m low =
     let fb : Fresh b es = all_noted (λ x. b ≤ x.seen) k t (home s k) (lowered_here s k t i bs e low) (home_bound s k b (low.none (slot_of k / 16))) in
     step_moved s k w _ _ _ _ s.len o bs (slots_after s k i v v' (noted k t) e g h) refl
     (step_list s k w es (tallies_of s) s.len o bs (all_noted (λ x. slot_of x.key ≡ slot_of k) k t (home s k) refl f.0, once_noted k t (home s k) f.1) c a (omega arith) s.lists
-    (λ x p _. rw u) (rw u) s.number.1 (low.long ∙ s.groups, low.none, fb))
+    (λ x p _. rw u) (rw u) s.number.1 (low.none, fb))
 
 pub touch_same : (s : Sessions) (k : Key) (t i : ℕ) (v v' : Vec Entry Global) → i ≡ slot_of k → v ≡ get_or (vec_items s.slots) i v → vec_items v' ≡ noted k t (vec_items v)
     → is_some (seen_in k (flat (slots_of s))) ≡ false → flat (map vec_items (set (vec_items s.slots) i v')) ≡ flat (slots_of s)
@@ -190,7 +190,7 @@ close_step s k t i j v v' u u' e is g h js b gu low =
     (step_list s k None es ts (s.len - 1) s.oldest (bounds_of s) (all_without (λ x. slot_of x.key ≡ slot_of k) k (home s k) f.0, once_without k (home s k) f.1) (without_slot k (home s k) f.1)
     (all_without (λ x. s.oldest ≤ x.seen) k (home s k) (home_fresh s k s.oldest (omega arith))) (omega arith) (length-set (tallies_of s) k.bucket (vec_items u') ∙ l) r
     (rw e (omega (arith, length_has s k t e))) (omega (arith, s.number.1))
-    (s.groups, (λ x. omega arith), all_without (λ x. get_or (bounds_of s) (slot_of k / 16) 0 ≤ x.seen) k (home s k) (home_bound s k (get_or (bounds_of s) (slot_of k / 16) 0) (omega arith))))
+    ((λ x. omega arith), all_without (λ x. get_or (bounds_of s) (slot_of k / 16) 0 ≤ x.seen) k (home s k) (home_bound s k (get_or (bounds_of s) (slot_of k / 16) 0) (omega arith))))
 
 pub close_rest : (s : Sessions) (k : Key) (t i : ℕ) (v v' : Vec Entry Global) → seen_in k (flat (slots_of s)) ≡ Some t → i ≡ slot_of k → v ≡ get_or (vec_items s.slots) i v
     → vec_items v' ≡ without k (vec_items v) → flat (map vec_items (set (vec_items s.slots) i v')) ≡ without k (flat (slots_of s))
@@ -248,7 +248,7 @@ add_step s k t o i j v v' u u' bs e few is g h js b gu up m low =
     step_moved s k (Some t) _ _ _ _ (s.len + 1) o bs (slots_after s k i v v' (λ ys. ys ++ x ∷ []) is g h) (tallies_after s j u' ∙ ap (λ y. set (tallies_of s) y (vec_items u')) js)
     (step_list s k (Some t) es ts (s.len + 1) o bs (All-push (λ y. slot_of y.key ≡ slot_of k) (home s k) x f.0 refl, once_push k t (home s k) f.1 n) (push_slot k t (home s k) n)
     (All-push (λ y. o ≤ y.seen) (home s k) x (home_fresh s k o (omega arith)) (omega arith)) (omega arith) (length-set (tallies_of s) k.bucket (vec_items u') ∙ l) r
-    (rw e (omega arith)) (omega (arith, s.number.0)) (low.long ∙ s.groups, low.none, fb))
+    (rw e (omega arith)) (omega (arith, s.number.0)) (low.none, fb))
 
 -- a tally raised and lowered again
 zeros : (q : Bool) (a b : ℕ) → a + cond q 0 0 ≡ b + cond q 0 0 → a ≡ b
@@ -279,6 +279,5 @@ undone_holds s k j ss u u' w w' e js b g up gw low =
       lists = length-set (tallies_of s) k.bucket (vec_items w') ∙ l;
       places = λ x p y. zeros (in_place x p k) _ _ (r x p y) ∙ s.places x p y;
       ages = s.ages;
-      groups = s.groups;
       limits = s.limits;
     })

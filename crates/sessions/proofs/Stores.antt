@@ -12,7 +12,7 @@ use Rattle.sessions.specs.Keys.{slot_of, in_place}
 use Rattle.sessions.specs.Entries.{seen_in, count_in}
 use Rattle.sessions.specs.Slots.{flat, tidy}
 use Rattle.sessions.specs.Tallies.{tallied_in}
-use Rattle.sessions.specs.Kept.{InSlots, Numbered, Listed, Tallied, NoneBefore, Grouped, Bounded}
+use Rattle.sessions.specs.Kept.{InSlots, Numbered, Listed, Tallied, NoneBefore, Bounded}
 use Rattle.sessions.proofs.Same.{slot_below}
 use Rattle.sessions.proofs.Files.{tidy_in, seen_flat}
 
@@ -58,18 +58,16 @@ Holds ss ts n o bs = record {
   lists : Listed ts;
   places : Tallied ss ts;
   ages : NoneBefore ss o;
-  groups : Grouped bs;
   limits : Bounded ss bs;
 }
 
-pub new_holds : (ss : List (List Entry)) (ts : List (List Tally)) (bs : List ℕ) → length ss ≡ 65536 → length ts ≡ 65536 → length bs ≡ 4096 → Empty ss → Empty ts → Holds ss ts 0 0 bs
-new_holds ss ts bs l m g a b = record {
+pub new_holds : (ss : List (List Entry)) (ts : List (List Tally)) (bs : List ℕ) → length ss ≡ 65536 → length ts ≡ 65536 → Empty ss → Empty ts → Holds ss ts 0 0 bs
+new_holds ss ts bs l m a b = record {
   filing = (l, empty_tidy 0 ss a);
   number = (rw (empty_flat ss a), omega arith);
   lists = m;
   places = λ i p h. rw (empty_flat ss a, empty_at ts i b);
   ages = rw (empty_flat ss a);
-  groups = g;
   limits = λ i. rw (empty_at ss i a);
 }
 

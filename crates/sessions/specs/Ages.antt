@@ -1,11 +1,5 @@
--- The oldest ticks of sessions, and bounds for them. Assumes nothing.
-use Rattle.std.specs.Prelude.{◌≡◌, ℕ, ◌/◌, ◌≤◌, min, List, [], ◌∷◌, length, slice_index, slice_index_or}
-use Rattle.sessions.specs.declared.entry.Entry.{Entry}
-
--- the oldest tick of these, or o, if that is older
-abbrev pub least_of : ℕ → List Entry → ℕ
-least_of o [] = o
-least_of o (e ∷ es) = least_of (min o e.seen) es
+-- Bounds for the oldest ticks of sessions. Assumes nothing.
+use Rattle.std.specs.Prelude.{◌≡◌, ℕ, ◌/◌, ◌≤◌, List, length, slice_index, slice_index_or}
 
 -- no bound is later than before, and that of the slot's group is no later than the tick
 pub record Lowered (slot tick : ℕ) (was after : List ℕ) : Type 0 where

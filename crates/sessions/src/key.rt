@@ -1,10 +1,10 @@
 // A session at a place of a bucket.
 ghost use Rattle.std.specs.Prelude.{◌≡◌, ◌<◌};
-ghost use Rattle.sessions.specs.Keys.{same_key, slot_of, weigh};
+ghost use Rattle.sessions.specs.Keys.{slot_of, weigh};
 
 use flow::key::FlowKey;
 
-#[derive(Clone, Copy)]
+#[derive(Clone, Copy, PartialEq, Eq, Debug)]
 pub struct Key {
     pub bucket: u16,
     pub place: u32,
@@ -12,12 +12,6 @@ pub struct Key {
 }
 
 impl Key {
-    pub fn same(&self, other: &Key) -> bool
-        ensures { result ≡ same_key self.now other.now }
-    {
-        self.bucket == other.bucket && self.place == other.place && self.flow.same(other.flow)
-    }
-
     // The bucket as an index.
     pub fn bucket_index(&self) -> usize
         ensures value { result ≡ self.now.bucket }
@@ -31,7 +25,7 @@ impl Key {
         ensures { result ≡ slot_of self.now }
     {
         let ports = u64::from(self.flow.sport) * 65536 + u64::from(self.flow.dport);
-        let rest = u64::from(self.bucket) * 256 + u64::from(self.flow.protocol.number());
+        let rest = u64::from(self.bucket) * 256 + u64::from(u8::from(self.flow.protocol));
         let sum = weighed(u64::from(self.flow.src), 0x9e37_79b9_7f4a_7c15, 0);
         let sum = weighed(u64::from(self.flow.dst), 0xc2b2_ae3d_27d4_eb4f, sum);
         let sum = weighed(ports, 0xd6e8_feb8_6659_fd93, sum);

@@ -1,6 +1,5 @@
 // How many sessions are open in each place of one bucket: a tally for each place that has any.
-ghost use Rattle.std.specs.Prelude.{◌≡◌, ℕ, ◌+◌, ◌-◌, ◌<◌, ◌≤◌, ◌&&◌, if◌then◌else◌, MatchOption, MatchResult, ◌==◌, nat_eq, nat_lt};
-ghost use Rattle.sessions.specs.Found.{Misses, HitAt};
+ghost use Rattle.std.specs.Prelude.{◌≡◌, ℕ, ◌+◌, ◌-◌, ◌<◌, ◌≤◌, ◌&&◌, if◌then◌else◌, MatchResult, position, ◌==◌, nat_eq, nat_lt};
 ghost use Rattle.sessions.specs.Tallies.{tallied_in};
 
 use std::alloc::AllocError;
@@ -16,25 +15,17 @@ pub fn count(tallies: &[Tally], place: u32) -> u32
     requires { tallied_in place tallies.now ≤ 65536 }
     ensures { result ≡ tallied_in place tallies.now }
 {
-    let mut sum = 0;
-    for t in tallies {
-        if t.place == place {
-            sum += t.count;
-        }
-    }
-    sum
+    tallies
+        .iter()
+        .map(|t| if t.place == place { t.count } else { 0 })
+        .sum()
 }
 
 // Where a tally of the place stands that is above 0.
 fn position(tallies: &[Tally], place: u32) -> Option<usize>
-    ensures { MatchOption result (Misses (λ t. (t.place == place) && nat_lt 0 t.count) tallies.now) (HitAt (λ t. (t.place == place) && nat_lt 0 t.count) tallies.now) }
+    ensures { result ≡ position (λ t. (t.place == place) && nat_lt 0 t.count) tallies.now }
 {
-    for i in 0..tallies.len() {
-        if tallies[i].place == place && tallies[i].count > 0 {
-            return Some(i);
-        }
-    }
-    None
+    tallies.iter().position(|t| t.place == place && t.count > 0)
 }
 
 // One more is open in the place. Nothing changes where there is no memory.
@@ -42,32 +33,22 @@ pub fn raise(tallies: &mut Vec<Tally>, place: u32) -> Result<(), AllocError>
     requires { tallied_in place tallies.old.items < 65536 }
     ensures { MatchResult result (λ _. (q : ℕ) → tallied_in q tallies.new.items ≡ tallied_in q tallies.old.items + (if nat_eq place q then 1 else 0)) (λ _. tallies.new.items ≡ tallies.old.items) }
 {
-    match position(tallies.as_slice(), place) {
-        Some(i) => {
-            let count = tallies[i].count + 1;
-            tallies[i] = Tally { place, count };
-            Ok(())
-        }
-        None => {
-            tallies.push(Tally { place, count: 1 })?;
-            Ok(())
-        }
+    match position(tallies, place) {
+        Some(i) => tallies[i].count += 1,
+        None => tallies.push(Tally { place, count: 1 })?,
     }
+    Ok(())
 }
 
 // One less is open in the place. A tally that comes to 0 is removed, so a bucket's list is no longer than its places.
 pub fn lower(tallies: &mut Vec<Tally>, place: u32)
     ensures { (q : ℕ) → tallied_in q tallies.new.items ≡ tallied_in q tallies.old.items - (if nat_eq place q then 1 else 0) }
 {
-    let Some(i) = position(tallies.as_slice(), place) else {
+    let Some(i) = position(tallies, place) else {
         return;
     };
-    let count = tallies[i].count;
-    if count > 1 {
-        tallies[i] = Tally {
-            place,
-            count: count - 1,
-        };
+    if tallies[i].count > 1 {
+        tallies[i].count -= 1;
     } else {
         tallies.remove(i);
     }

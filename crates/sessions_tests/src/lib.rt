@@ -53,7 +53,7 @@ mod tests {
             store.open(session(3, 1, client), 1)?;
         }
         match store.open(session(3, 1, 65_536), 1) {
-            Err(Error::Of(fault)) => assert_eq!(rt; fault.number(), 7),
+            Err(Error::Of(fault)) => assert_eq!(rt; u8::from(fault), 7),
             _ => return Err(Fail::new("one too many is open")),
         }
         assert_eq!(rt; store.open(session(3, 1, 9), 2).is_ok(), true);

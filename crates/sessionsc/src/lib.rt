@@ -1,8 +1,6 @@
 // The sessions of a server played from a script of bytes, for measuring from another language.
 #![tactic(auto)]
 
-ghost use Rattle.std.specs.Prelude.{◌≡◌, ◌+◌, ◌≤◌, length};
-
 use fault::Error;
 use flow::key::{FlowKey, Protocol};
 use sessions::key::Key;
@@ -12,69 +10,94 @@ use std::alloc::Global;
 // A step: what is done (1), bucket (2), place (4), both addresses (8), both ports (4), protocol (1), tick (8).
 const STEP: usize = 28;
 
-fn number16(bytes: &[u8], at: usize) -> u16
-    requires { at + 2 ≤ length bytes.now }
-{
-    u16::from_be_bytes([bytes[at], bytes[at + 1]])
+// What is done. Any other number only finds the slot.
+enum Action {
+    Open,
+    IsOpen,
+    Touch,
+    Close,
+    CountAt,
+    Idle,
+    Slot,
 }
 
-fn number32(bytes: &[u8], at: usize) -> u32
-    requires { at + 4 ≤ length bytes.now }
-{
-    u32::from_be_bytes([bytes[at], bytes[at + 1], bytes[at + 2], bytes[at + 3]])
+impl From<u8> for Action {
+    fn from(number: u8) -> Action {
+        match number {
+            1 => Action::Open,
+            2 => Action::IsOpen,
+            3 => Action::Touch,
+            4 => Action::Close,
+            5 => Action::CountAt,
+            6 => Action::Idle,
+            _ => Action::Slot,
+        }
+    }
 }
 
-fn key_of(step: &[u8]) -> Key
-    requires { length step.now ≡ 28 }
-{
-    let protocol = if step[19] == 6 {
-        Protocol::Tcp
-    } else {
-        Protocol::Udp
-    };
+fn key_of(step: &[u8; STEP]) -> Key {
+    let [
+        _,
+        b0,
+        b1,
+        p0,
+        p1,
+        p2,
+        p3,
+        s0,
+        s1,
+        s2,
+        s3,
+        d0,
+        d1,
+        d2,
+        d3,
+        a0,
+        a1,
+        c0,
+        c1,
+        protocol,
+        ..
+    ] = *step;
     Key {
-        bucket: number16(step, 1),
-        place: number32(step, 3),
+        bucket: u16::from_be_bytes([b0, b1]),
+        place: u32::from_be_bytes([p0, p1, p2, p3]),
         flow: FlowKey {
-            src: number32(step, 7),
-            dst: number32(step, 11),
-            sport: number16(step, 15),
-            dport: number16(step, 17),
-            protocol,
+            src: u32::from_be_bytes([s0, s1, s2, s3]),
+            dst: u32::from_be_bytes([d0, d1, d2, d3]),
+            sport: u16::from_be_bytes([a0, a1]),
+            dport: u16::from_be_bytes([c0, c1]),
+            protocol: Protocol::try_from(protocol).unwrap_or(Protocol::Udp),
         },
     }
 }
 
-fn tick_of(step: &[u8]) -> u64
-    requires { length step.now ≡ 28 }
-{
-    u64::from(number32(step, 20)) * 4_294_967_296 + u64::from(number32(step, 24))
+fn tick_of(step: &[u8; STEP]) -> u64 {
+    let [.., t0, t1, t2, t3, t4, t5, t6, t7] = *step;
+    u64::from_be_bytes([t0, t1, t2, t3, t4, t5, t6, t7])
 }
 
 fn opened(answer: Result<(), Error>) -> u8 {
     match answer {
         Ok(()) => 0,
-        Err(Error::Of(fault)) => fault.number(),
+        Err(Error::Of(fault)) => u8::from(fault),
         Err(Error::Memory) => 255,
     }
 }
 
 // One step: its answer in a byte.
-fn play(store: &mut Sessions, heap: Global, step: &[u8]) -> u8
-    requires { length step.now ≡ 28 }
-{
+fn play(store: &mut Sessions, heap: Global, step: &[u8; STEP]) -> u8 {
     let key = key_of(step);
-    match step[0] {
-        1 => opened(store.open(key, tick_of(step))),
-        2 => u8::from(store.is_open(&key)),
-        3 => u8::from(store.touch(&key, tick_of(step))),
-        4 => u8::from(store.close(&key)),
-        5 => (store.count_at(key.bucket, key.place) & 0xff) as u8,
-        6 => match store.idle(heap, tick_of(step)) {
-            Ok(names) => (names.len() & 0xff) as u8,
-            Err(_) => 255,
-        },
-        _ => (key.slot() & 0xff) as u8,
+    match Action::from(step[0]) {
+        Action::Open => opened(store.open(key, tick_of(step))),
+        Action::IsOpen => u8::from(store.is_open(&key)),
+        Action::Touch => u8::from(store.touch(&key, tick_of(step))),
+        Action::Close => u8::from(store.close(&key)),
+        Action::CountAt => (store.count_at(key.bucket, key.place) & 0xff) as u8,
+        Action::Idle => store
+            .idle(heap, tick_of(step))
+            .map_or(255, |names| (names.len() & 0xff) as u8),
+        Action::Slot => (key.slot() & 0xff) as u8,
     }
 }
 
@@ -84,13 +107,9 @@ pub extern "C" fn play_sessions(heap: Global, script: &[u8], answers: &mut [u8])
     let Ok(mut store) = Sessions::new(heap) else {
         return 0;
     };
-    let mut played = 0;
-    for step in script.chunks_exact(STEP) {
-        if played >= answers.len() {
-            break;
-        }
-        answers[played] = play(&mut store, heap, step);
-        played += 1;
+    let (steps, _) = script.as_chunks::<STEP>();
+    for (step, answer) in steps.iter().zip(answers.iter_mut()) {
+        *answer = play(&mut store, heap, step);
     }
-    played
+    steps.len().min(answers.len())
 }

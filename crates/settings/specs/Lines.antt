@@ -1,6 +1,6 @@
 -- The settings of a program, one to a line, and then `run`. Assumes nothing.
 use Rattle.std.specs.Prelude.{◌≡◌, ℕ, ◌+◌, Bool, true, false, cond, ◌&&◌, List, [], ◌∷◌, ◌++◌, length, drop, Some, None, Ok, Err, vec_items, codes, Option, Result, Vec, ◌==◌, nat_le, nat_lt, slice_index}
-use Rattle.std.specs.Option.{unwrap_or}
+use Rattle.std.specs.List.{slice_split}
 use Rattle.std.specs.Str.{bytes_eq}
 use Rattle.std.specs.declared.alloc.Global.{Global}
 use Rattle.fault.specs.declared.Fault.{Fault}
@@ -8,11 +8,10 @@ use Rattle.fault.specs.declared.Fault.TheVariants.{Malformed, NoSuch, NoServer}
 use Rattle.fault.specs.declared.Error.{Error}
 use Rattle.fault.specs.declared.Error.TheVariants.{Of, Memory}
 use Rattle.flow.specs.Buckets.{is_bucket_count}
-use Rattle.words.specs.Words.{word_of, rest_of, with_digit, numeral}
+use Rattle.words.specs.Words.{word_of, rest_of, numeral}
 use Rattle.settings.specs.declared.kept.Setting.{Setting}
 use Rattle.settings.specs.declared.kept.Setting.TheVariants.{Buckets, Server, Balancers, Balancer}
 use Rattle.settings.specs.declared.kept.Settings.{Settings}
-use Rattle.settings.specs.declared.kept.Servers.{Servers}
 
 -- what is written so far. servers: those at the start, none where they are not written yet
 pub record Written : Type 0 where
@@ -77,58 +76,33 @@ setting s None rest = fitting s (number_in rest)
 
 -- THE SERVERS
 
--- done: those read. low: the lowest number that the next may have. now: the number that is being read
-pub record Listing : Type 0 where
-  pub done : List ℕ
-  pub low : ℕ
-  pub now : Option ℕ
+abbrev pub risen : ℕ → Result ℕ Fault → Result ℕ Fault
+risen low (Ok n) = cond (nat_le low n && nat_lt n 256) (Ok n) (Err NoSuch)
+risen low (Err f) = Err f
 
-abbrev pub listing : Servers → Listing
-listing s = record { done = vec_items s.done; low = s.low; now = s.now }
+-- a server's number; low: the lowest one that may come
+abbrev pub server_in : List ℕ → ℕ → Result ℕ Fault
+server_in digits low = risen low (or_malformed (numeral digits))
 
--- a number has ended: it is a server, and they rise
-abbrev pub ended : Listing → Option ℕ → Result Listing Fault
-ended l None = Err Malformed
-ended l (Some n) = cond (nat_le l.low n && nat_lt n 256) (Ok (record { done = l.done ++ n ∷ []; low = n + 1; now = None })) (Err NoSuch)
-
-abbrev digit_to : Listing → Option ℕ → Result Listing Fault
-digit_to l None = Err Malformed
-digit_to l (Some n) = Ok (record { done = l.done; low = l.low; now = Some n })
-
--- one byte more
-abbrev pub next_byte : ℕ → Listing → Result Listing Fault
-next_byte c l = cond (c == 32) (ended l l.now) (digit_to l (with_digit (unwrap_or l.now 0) c))
-
-abbrev pub onward : (Listing → Result (List ℕ) Fault) → Result Listing Fault → Result (List ℕ) Fault
-onward go (Ok l) = go l
+abbrev pub onward : (ℕ → Result (List ℕ) Fault) → Result ℕ Fault → Result (List ℕ) Fault
+onward go (Ok n) = go n
 onward go (Err f) = Err f
 
-abbrev pub done_in : Listing → Result (List ℕ) Fault
-done_in l = Ok l.done
+-- the servers so far, and those in the words that are left: they rise
+unfoldable pub servers_from : List ℕ → ℕ → List (List ℕ) → Result (List ℕ) Fault
+servers_from done low [] = Ok done
+servers_from done low (digits ∷ more) = onward (λ n. servers_from (done ++ n ∷ []) (n + 1) more) (server_in digits low)
 
--- the servers in the bytes that are left
-unfoldable pub servers_from : Listing → List ℕ → Result (List ℕ) Fault
-servers_from l [] = onward done_in (ended l l.now)
-servers_from l (c ∷ cs) = onward (λ m. servers_from m cs) (next_byte c l)
-
-abbrev pub unlisted : Listing
-unlisted = record { done = []; low = 0; now = None }
+-- with a space between them
+abbrev pub servers_listed : List ℕ → Result (List ℕ) Fault
+servers_listed list = servers_from [] 0 (slice_split (λ c. c == 32) list)
 
 abbrev pub is_empty : List ℕ → Bool
 is_empty xs = length xs == 0
 
 -- behind the word, with a space before each
 abbrev pub servers_in : List ℕ → Result (List ℕ) Fault
-servers_in rest = cond (is_empty rest) (Err NoServer) (servers_from unlisted (drop 1 rest))
-
--- the answer of the code, and what is listed then
-abbrev pub Lists : Result Listing Fault → Result (Unit {0}) Error → Listing → Type 0
-Lists (Ok l) (Ok u) after = after ≡ l
-Lists (Ok l) (Err Memory) after = Unit {0}
-Lists (Ok l) (Err (Of g)) after = ⊥
-Lists (Err f) (Ok u) after = ⊥
-Lists (Err f) (Err Memory) after = ⊥
-Lists (Err f) (Err (Of g)) after = g ≡ f
+servers_in rest = cond (is_empty rest) (Err NoServer) (servers_listed (drop 1 rest))
 
 abbrev pub Listed : Result (List ℕ) Fault → Result (Vec ℕ Global) Error → Type 0
 Listed (Ok ss) (Ok v) = vec_items v ≡ ss

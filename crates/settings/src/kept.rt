@@ -1,7 +1,7 @@
 // What is written in the settings.
 
 // The settings that are one number each.
-#[derive(Clone, Copy)]
+#[derive(Clone, Copy, PartialEq, Eq, Debug)]
 pub enum Setting {
     // How many buckets there are.
     Buckets,
@@ -21,14 +21,4 @@ pub struct Settings {
     pub server: Option<u32>,
     pub balancers: Option<u32>,
     pub balancer: Option<u32>,
-}
-
-// The servers of a line, as far as it was read.
-#[derive(Drop)]
-pub struct Servers {
-    pub done: Vec<u8>,
-    // The lowest number that the next may have: they rise.
-    pub low: u32,
-    // The number that is being read.
-    pub now: Option<u32>,
 }

@@ -2,8 +2,6 @@
 ghost use Rattle.settings.specs.Laws.{FirstFault};
 
 // The fault that is told is that of the first line that has one.
-pub fn first_fault() -> u8
+pub fn first_fault()
     ensures { FirstFault }
-{
-    0
-}
+{}

@@ -5,42 +5,29 @@ ghost use Rattle.settings.specs.Lines.{named, fits, number_in, setting};
 use crate::kept::Setting;
 use fault::Fault;
 use flow::buckets::Buckets;
-use words::{is, number};
-
-const SPACE: u8 = 32;
-
-// So many servers can be, and so many balancers.
-const SERVERS: u32 = 256;
-
-const BALANCERS: u32 = 65536;
+use words::{after_space, number};
 
 impl Setting {
     pub fn named(word: &[u8]) -> Option<Setting>
         ensures { result ≡ named word.now }
     {
-        if is(word, b"buckets") {
-            return Some(Setting::Buckets);
+        match word {
+            b"buckets" => Some(Setting::Buckets),
+            b"house" => Some(Setting::Server),
+            b"doors" => Some(Setting::Balancers),
+            b"door" => Some(Setting::Balancer),
+            _ => None,
         }
-        if is(word, b"house") {
-            return Some(Setting::Server);
-        }
-        if is(word, b"doors") {
-            return Some(Setting::Balancers);
-        }
-        if is(word, b"door") {
-            return Some(Setting::Balancer);
-        }
-        None
     }
 
-    // Can there be so many buckets, such a server, such a balancer?
+    // Can there be so many buckets, such a server, so many balancers, such a balancer?
     fn fits(self, n: u32) -> bool
         ensures { result ≡ fits self n }
     {
         match self {
             Setting::Buckets => Buckets::new(n).is_ok(),
-            Setting::Server => n < SERVERS,
-            Setting::Balancers | Setting::Balancer => n < BALANCERS,
+            Setting::Server => u8::try_from(n).is_ok(),
+            Setting::Balancers | Setting::Balancer => u16::try_from(n).is_ok(),
         }
     }
 
@@ -63,14 +50,7 @@ impl Setting {
 fn read_number(rest: &[u8]) -> Result<u32, Fault>
     ensures { result ≡ number_in rest.now }
 {
-    let [first, digits @ ..] = rest else {
-        return Err(Fault::Malformed);
-    };
-    if *first != SPACE {
-        return Err(Fault::Malformed);
-    }
-    match number(digits) {
-        Some(n) => Ok(n),
-        None => Err(Fault::Malformed),
-    }
+    after_space(rest)
+        .and_then(|digits| number(digits))
+        .ok_or(Fault::Malformed)
 }

@@ -1,11 +1,12 @@
 // Settings read line by line, to the end or to the first fault.
 ghost use Rattle.std.specs.Prelude.{◌≡◌};
-ghost use Rattle.settings.specs.Lines.{written, blank, runs, lists, value_of, sets, next, Takes};
+ghost use Rattle.settings.specs.Lines.{written, blank, runs, lists, sets, by_word, next, Takes};
 
-use crate::kept::{Servers, Setting, Settings};
+use crate::kept::{Setting, Settings};
+use crate::list::read_servers;
 use fault::{Error, Fault};
 use std::alloc::Global;
-use words::{is, split_word};
+use words::split_word;
 
 impl Settings {
     pub fn new(heap: Global) -> Settings
@@ -38,48 +39,38 @@ impl Settings {
         if !self.servers.is_empty() {
             return Err(Error::Of(Fault::Malformed));
         }
-        self.servers = Servers::read(heap, rest)?;
+        self.servers = read_servers(heap, rest)?;
         Ok(false)
-    }
-
-    fn value(&self, setting: Setting) -> Option<u32>
-        ensures { result ≡ value_of setting (written self.now) }
-    {
-        match setting {
-            Setting::Buckets => self.buckets,
-            Setting::Server => self.server,
-            Setting::Balancers => self.balancers,
-            Setting::Balancer => self.balancer,
-        }
     }
 
     fn set(&mut self, setting: Option<Setting>, rest: &[u8]) -> Result<bool, Error>
         ensures { Takes (sets setting rest.now (written self.old)) result (written self.old) (written self.new) }
     {
-        let Some(setting) = setting else {
-            return Err(Error::Of(Fault::Malformed));
-        };
-        let value = Some(setting.read(self.value(setting), rest)?);
+        let setting = setting.ok_or(Fault::Malformed)?;
         match setting {
-            Setting::Buckets => self.buckets = value,
-            Setting::Server => self.server = value,
-            Setting::Balancers => self.balancers = value,
-            Setting::Balancer => self.balancer = value,
+            Setting::Buckets => self.buckets = Some(setting.read(self.buckets, rest)?),
+            Setting::Server => self.server = Some(setting.read(self.server, rest)?),
+            Setting::Balancers => self.balancers = Some(setting.read(self.balancers, rest)?),
+            Setting::Balancer => self.balancer = Some(setting.read(self.balancer, rest)?),
         }
         Ok(false)
     }
 
-    // One line more: true where all is written. A fault changes nothing.
+    fn take_word(&mut self, heap: Global, word: &[u8], rest: &[u8]) -> Result<bool, Error>
+        ensures { Takes (by_word word.now rest.now (written self.old)) result (written self.old) (written self.new) }
+    {
+        match word {
+            b"run" => self.run(rest),
+            b"houses" => self.list(heap, rest),
+            _ => self.set(Setting::named(word), rest),
+        }
+    }
+
+    // One line more: true where all is written. A fault changes nothing. A bool: an enum of two words would only name it again.
     pub fn take(&mut self, heap: Global, line: &[u8]) -> Result<bool, Error>
         ensures { Takes (next line.now (written self.old)) result (written self.old) (written self.new) }
     {
         let (word, rest) = split_word(line);
-        if is(word, b"run") {
-            return self.run(rest);
-        }
-        if is(word, b"houses") {
-            return self.list(heap, rest);
-        }
-        self.set(Setting::named(word), rest)
+        self.take_word(heap, word, rest)
     }
 }

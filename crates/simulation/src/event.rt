@@ -4,7 +4,7 @@ use fault::{Fault, Refusal};
 use flow::key::FlowKey;
 use machine::name::Machine;
 
-#[derive(Clone, Copy)]
+#[derive(Clone, Copy, PartialEq, Eq, Debug)]
 pub enum Event {
     // The letter with this number is on its way now; was handled; is lost.
     Sent {
@@ -72,7 +72,7 @@ impl Event {
 }
 
 // What came of all packets since the start.
-#[derive(Clone, Copy)]
+#[derive(Clone, Copy, PartialEq, Eq, Default, Debug)]
 pub struct Tally {
     pub opened: u64,
     pub given: u64,
@@ -83,16 +83,6 @@ pub struct Tally {
 }
 
 impl Tally {
-    pub fn new() -> Tally {
-        Tally {
-            opened: 0,
-            given: 0,
-            refused: 0,
-            lost: 0,
-            longest: 0,
-        }
-    }
-
     pub fn noted(self, event: Event) -> Tally {
         match event {
             Event::Given { opened, .. } => Tally {

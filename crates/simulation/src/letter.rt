@@ -1,4 +1,5 @@
 // What is on its way: bytes from one machine to another.
+use crate::event::Event;
 use machine::name::Machine;
 
 #[derive(Drop)]
@@ -21,9 +22,14 @@ impl Letter {
     }
 
     pub fn is_about(&self, bucket: u16) -> bool {
-        match self.bucket() {
-            Some(named) => named == bucket,
-            None => false,
+        self.bucket() == Some(bucket)
+    }
+
+    // What is seen where it is lost.
+    pub(crate) fn lost(&self) -> Event {
+        Event::Lost {
+            number: self.number,
+            bucket: self.bucket().unwrap_or(0),
         }
     }
 }

@@ -6,4 +6,5 @@ pub mod event;
 pub mod letter;
 pub mod orders;
 pub mod random;
+mod traffic;
 pub mod world;

@@ -53,7 +53,7 @@ impl Simulation {
     // So many events. What is seen of each but the last is forgotten; the tally stays.
     pub fn random(&mut self, seed: u32, events: u32) -> Result<(), Error> {
         let mut dice = Dice::new(seed);
-        for _i in 0..events {
+        for _ in 0..events {
             self.random_event(&mut dice)?;
         }
         Ok(())
@@ -62,9 +62,9 @@ impl Simulation {
     fn random_event(&mut self, dice: &mut Dice) -> Result<(), Error> {
         match dice.below(1000) {
             0..=149 => self.random_packet(dice),
-            150..=899 => self.random_letter(dice),
-            900..=939 => self.random_loss(dice),
-            940..=969 => self.random_copy(dice),
+            150..=899 => self.random_letter(dice, |all, at| all.deliver_at(at)),
+            900..=939 => self.random_letter(dice, |all, at| all.lose_at(at)),
+            940..=969 => self.random_letter(dice, |all, at| all.repeat_at(at)),
             970..=984 => unless_memory(self.ticks(dice.below(20))),
             985..=994 => unless_memory(self.close(flow_of(dice.below(FLOWS)))),
             995..=996 => unless_memory(self.add((dice.below(SERVERS) & 0xff) as u8)),
@@ -80,25 +80,16 @@ impl Simulation {
         unless_memory(self.packet(balancer, flow, opens))
     }
 
-    fn random_at(&self, dice: &mut Dice) -> usize {
-        dice.below(self.letters.len().min(1_000_000) as u32) as usize
-    }
-
-    fn random_letter(&mut self, dice: &mut Dice) -> Result<(), Error> {
-        self.seen.clear();
-        let at = self.random_at(dice);
-        unless_memory(self.deliver_at(at))
-    }
-
-    fn random_loss(&mut self, dice: &mut Dice) -> Result<(), Error> {
-        self.seen.clear();
-        let at = self.random_at(dice);
-        unless_memory(self.lose_at(at))
-    }
-
-    fn random_copy(&mut self, dice: &mut Dice) -> Result<(), Error> {
-        self.seen.clear();
-        let at = self.random_at(dice);
-        unless_memory(self.repeat_at(at))
+    // A step with any of the letters.
+    fn random_letter<S: FnOnce(&mut Simulation, usize) -> Result<(), Error>>(
+        &mut self,
+        dice: &mut Dice,
+        step: S,
+    ) -> Result<(), Error>
+        requires { S.IsAlwaysCallable step }
+    {
+        self.traffic.seen.clear();
+        let count = self.traffic.letters.len().min(1_000_000) as u32;
+        unless_memory(step(self, dice.below(count) as usize))
     }
 }

@@ -1,20 +1,17 @@
 // All machines, and what is on its way.
 use crate::event::{Event, Tally};
 use crate::letter::Letter;
+use crate::traffic::Traffic;
 use balancer::Balancer;
-use commands::inside;
 use controller::kept::Controller;
 use fault::{Error, Fault};
 use flow::buckets::Buckets;
 use flow::key::FlowKey;
 use machine::name::Machine;
-use machine::outbox::Outbox;
-use machine::sent::{Note, Sent};
+use packets::packet;
 use roster::roster::Roster;
 use server::kept::Server;
 use std::alloc::Global;
-use wire::message::{Control, Message};
-use wire_write::write;
 
 #[derive(Drop)]
 pub struct Simulation {
@@ -26,14 +23,9 @@ pub struct Simulation {
     // Every server that ever was listed keeps what it remembers.
     pub(crate) servers: Vec<Server>,
     pub(crate) controller: Controller,
-    pub(crate) letters: Vec<Letter>,
-    // The number of the last letter.
-    pub(crate) last: u32,
     // What comes to this machine is lost.
     pub(crate) deaf: Option<Machine>,
-    pub(crate) tally: Tally,
-    // What was seen of the last event.
-    pub(crate) seen: Vec<Event>,
+    pub(crate) traffic: Traffic,
 }
 
 fn numbers(heap: Global, count: u8) -> Result<Vec<u8>, Error> {
@@ -42,14 +34,6 @@ fn numbers(heap: Global, count: u8) -> Result<Vec<u8>, Error> {
         list.push(number)?;
     }
     Ok(list)
-}
-
-fn said<'a>(control: Control, answers: bool) -> Message<'a> {
-    if answers {
-        Message::Answer(control)
-    } else {
-        Message::Control(control)
-    }
 }
 
 impl Simulation {
@@ -72,11 +56,8 @@ impl Simulation {
             balancers: Vec::new(heap),
             servers: Vec::new(heap),
             controller,
-            letters: Vec::new(heap),
-            last: 0,
             deaf: None,
-            tally: Tally::new(),
-            seen: Vec::new(heap),
+            traffic: Traffic::new(heap),
         };
         for _ in 0..balancers {
             all.add_balancer()?;
@@ -104,12 +85,9 @@ impl Simulation {
     }
 
     pub(crate) fn find_server(&self, number: u8) -> Option<usize> {
-        for i in 0..self.servers.len() {
-            if self.servers[i].number() == number {
-                return Some(i);
-            }
-        }
-        None
+        self.servers
+            .iter()
+            .position(|server| server.number() == number)
     }
 
     pub fn buckets(&self) -> Buckets {
@@ -130,16 +108,15 @@ impl Simulation {
 
     // Oldest first.
     pub fn letters(&self) -> &[Letter] {
-        self.letters.as_slice()
+        self.traffic.letters.as_slice()
     }
 
     pub fn letter(&self, number: u32) -> Option<&Letter> {
-        let at = self.position(number)?;
-        self.letters.get(at)
+        self.letters().iter().find(|letter| letter.number == number)
     }
 
     pub fn seen(&self) -> &[Event] {
-        self.seen.as_slice()
+        self.traffic.seen.as_slice()
     }
 
     // What comes to this machine is lost from now on, until another is named or none.
@@ -148,77 +125,20 @@ impl Simulation {
     }
 
     pub fn tally(&self) -> Tally {
-        self.tally
-    }
-
-    pub(crate) fn position(&self, number: u32) -> Option<usize> {
-        for i in 0..self.letters.len() {
-            if self.letters[i].number == number {
-                return Some(i);
-            }
-        }
-        None
-    }
-
-    pub(crate) fn see(&mut self, event: Event) -> Result<(), Error> {
-        self.seen.push(event)?;
-        self.tally = self.tally.noted(event);
-        Ok(())
-    }
-
-    // Bytes on their way, under a number of their own.
-    pub(crate) fn send(
-        &mut self,
-        from: Machine,
-        to: Machine,
-        bytes: Vec<u8>,
-        forwarded: u32,
-    ) -> Result<(), Error> {
-        let number = self.last.wrapping_add(1);
-        let letter = Letter {
-            number,
-            from,
-            to,
-            bytes,
-            forwarded,
-        };
-        let bucket = letter.bucket().unwrap_or(0);
-        self.letters.push(letter)?;
-        self.last = number;
-        self.tally = self.tally.forwarded(forwarded);
-        self.see(Event::Sent { number, bucket })
-    }
-
-    // What a machine's step sends.
-    pub(crate) fn post(&mut self, from: Machine, out: &Outbox) -> Result<(), Error> {
-        for sent in out.sent() {
-            self.post_one(from, *sent)?;
-        }
-        Ok(())
-    }
-
-    pub(crate) fn post_one(&mut self, from: Machine, sent: Sent) -> Result<(), Error> {
-        let (control, answers) = match sent.note {
-            Note::Say(control) => (control, false),
-            Note::Answer(control) => (control, true),
-            Note::PutOff(bucket) => return self.see(Event::PutOff { bucket }),
-        };
-        let mut bytes = Vec::new(self.heap);
-        write(said(control, answers), &mut bytes)?;
-        self.send(from, sent.to, bytes, 0)
+        self.traffic.tally
     }
 
     // A packet comes from outside, by a balancer.
     pub fn packet(&mut self, balancer: u16, flow: FlowKey, opens: bool) -> Result<(), Error> {
-        self.seen.clear();
-        let at = usize::from(balancer);
-        if at >= self.balancers.len() {
-            return Err(Error::Of(Fault::NoSuch));
-        }
-        let packet = inside::packet(self.heap, flow, opens)?;
+        self.traffic.seen.clear();
+        let sender = self
+            .balancers
+            .get(usize::from(balancer))
+            .ok_or(Fault::NoSuch)?;
+        let inside = packet(self.heap, flow, opens)?;
         let mut bytes = Vec::new(self.heap);
-        let server = self.balancers[at].dispatch(packet.as_slice(), &mut bytes)?;
-        self.send(
+        let server = sender.dispatch(inside.as_slice(), &mut bytes)?;
+        self.traffic.send(
             Machine::Balancer(balancer),
             Machine::Server(server),
             bytes,

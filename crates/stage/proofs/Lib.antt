@@ -1,4 +1,1 @@
-pub mod Found
-pub mod Passed
-pub mod Counted
-pub mod Idled
+pub mod Taken

@@ -1,5 +1,5 @@
 -- The machines of one bucket and what is on its way between them, and that a fault changes none of it. Assumes nothing.
-use Rattle.std.specs.Prelude.{◌≡◌, ℕ, List, Ok, Err, vec_items, Option, Result}
+use Rattle.std.specs.Prelude.{◌≡◌, ℕ, List, map, Ok, Err, vec_items, Option, Result}
 use Rattle.fault.specs.declared.Error.{Error}
 use Rattle.fault.specs.declared.Error.TheVariants.{Of, Memory}
 use Rattle.chain.specs.declared.way.Link.{Link}
@@ -30,10 +30,10 @@ machines s =
       stand_there = vec_items s.places;
       open_there = opened s.sessions;
       forgotten_there = vec_items s.notices;
-      known_there = vec_items s.known;
-      still_told = vec_items s.telling;
+      known_there = map (λ b. b.known) (vec_items s.balancers);
+      still_told = map (λ b. b.telling) (vec_items s.balancers);
       controls = control s.chain;
-      on_the_way = on_way s.post;
+      on_the_way = on_way s.traffic.post;
       ticks = ticks_of s.clock;
     }
 

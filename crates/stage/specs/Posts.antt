@@ -1,5 +1,5 @@
 -- The messages on their way, by their list. Assumes nothing.
-use Rattle.std.specs.Prelude.{◌≡◌, ℕ, ◌+◌, ◌<◌, cond, List, [], ◌∷◌, ◌++◌, length, take, drop, Some, None, vec_items, Option, ◌==◌, slice_index_or}
+use Rattle.std.specs.Prelude.{◌≡◌, ℕ, cond, List, [], ◌∷◌, Some, None, vec_items, find, Option, ◌==◌}
 use Rattle.stage.specs.declared.message.Machine.{Machine}
 use Rattle.stage.specs.declared.message.Body.{Body}
 use Rattle.stage.specs.declared.message.Message.{Message}
@@ -12,8 +12,7 @@ abbrev pub sent_by : Machine → Machine → Body → Message → Type 0
 sent_by a b x m = (m.from ≡ a) × (m.to ≡ b) × (m.body ≡ x)
 
 abbrev pub found : ℕ → List Message → Option Message
-found n [] = None
-found n (m ∷ ms) = cond (m.number == n) (Some m) (found n ms)
+found n ms = find (λ m. m.number == n) ms
 
 abbrev pub without : ℕ → List Message → List Message
 without n [] = []
@@ -22,8 +21,3 @@ without n (m ∷ ms) = cond (m.number == n) ms (m ∷ without n ms)
 abbrev pub oldest : List Message → Option Message
 oldest [] = None
 oldest (m ∷ ms) = Some m
-
--- where the message with the number n stands, if it is on its way
-abbrev pub StandsAt : ℕ → List Message → Option ℕ → Type 0
-StandsAt n ms None = (found n ms ≡ None) × (without n ms ≡ ms)
-StandsAt n ms (Some i) = (i < length ms) × ((m : Message) → m ≡ slice_index_or ms i m → found n ms ≡ Some m) × (without n ms ≡ take i ms ++ drop (i + 1) ms)

@@ -4,7 +4,7 @@ use chain::way::Link;
 use fault::{Fault, Refusal};
 use flow::key::FlowKey;
 
-#[derive(Clone, Copy)]
+#[derive(Clone, Copy, PartialEq, Eq, Debug)]
 pub enum Event {
     // On its way now.
     Sent(Message),

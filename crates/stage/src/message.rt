@@ -1,7 +1,7 @@
 // What is on its way between the machines.
 use chain::way::{Link, Packet};
 
-#[derive(Clone, Copy)]
+#[derive(Clone, Copy, PartialEq, Eq, Debug)]
 pub enum Machine {
     Controller,
     Server(u8),
@@ -9,7 +9,7 @@ pub enum Machine {
 }
 
 // A packet, or one of the four control messages, each with its answer.
-#[derive(Clone, Copy)]
+#[derive(Clone, Copy, PartialEq, Eq, Debug)]
 pub enum Body {
     Packet(Packet),
     Stand { place: Link, before: Link },
@@ -23,7 +23,7 @@ pub enum Body {
 }
 
 // The number tells it from the others on their way, a copy too.
-#[derive(Clone, Copy)]
+#[derive(Clone, Copy, PartialEq, Eq, Debug)]
 pub struct Message {
     pub number: u32,
     pub from: Machine,

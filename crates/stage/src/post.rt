@@ -1,6 +1,6 @@
 // The messages on their way, oldest first.
-ghost use Rattle.std.specs.Prelude.{◌≡◌, [], ◌∷◌, ◌++◌, drop, MatchResult};
-ghost use Rattle.stage.specs.Posts.{on_way, sent_by, found, without, oldest, StandsAt};
+ghost use Rattle.std.specs.Prelude.{◌≡◌, [], ◌∷◌, ◌++◌, drop, position, ◌==◌, IfNone, MatchResult};
+ghost use Rattle.stage.specs.Posts.{on_way, sent_by, found, without, oldest};
 
 use crate::message::{Body, Machine, Message};
 use std::alloc::{AllocFailed, Global};
@@ -57,28 +57,28 @@ impl Post {
     }
 
     fn position(&self, number: u32) -> Option<usize>
-        ensures { StandsAt number (on_way self.now) result }
+        ensures { result ≡ position (λ m. m.number == number) (on_way self.now) }
     {
-        for i in 0..self.on_way.len() {
-            if self.on_way[i].number == number {
-                return Some(i);
-            }
-        }
-        None
+        self.on_way
+            .iter()
+            .position(|message| message.number == number)
     }
 
     // The message with this number.
     pub fn find(&self, number: u32) -> Option<Message>
         ensures { result ≡ found number (on_way self.now) }
     {
-        let at = self.position(number)?;
-        Some(self.on_way[at])
+        self.on_way
+            .iter()
+            .copied()
+            .find(|message| message.number == number)
     }
 
     // The message with this number is on its way no more.
     pub fn take(&mut self, number: u32) -> Option<Message>
         ensures value { result ≡ found number (on_way self.old) }
         ensures after { on_way self.new ≡ without number (on_way self.old) }
+        ensures unchanged { IfNone result (on_way self.new ≡ on_way self.old) }
     {
         let at = self.position(number)?;
         Some(self.on_way.remove(at))

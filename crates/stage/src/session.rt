@@ -1,5 +1,7 @@
 // The open sessions, each at its place.
-ghost use Rattle.std.specs.Prelude.{◌≡◌, [], ◌∷◌, ◌++◌, MatchResult};
+ghost use Rattle.std.specs.Prelude.{◌≡◌, [], ◌∷◌, ◌++◌, position, MatchResult};
+ghost use Rattle.flow.specs.Key.{same_flow};
+ghost use Rattle.chain.specs.Ways.{same_link};
 ghost use Rattle.stage.specs.Opened.{opened, is_of, open_at, count_at, entry_at, empty_at, first_idle};
 
 use chain::place::Entry;
@@ -8,7 +10,7 @@ use flow::key::FlowKey;
 use sessions::store::idle::is_idle;
 use std::alloc::{AllocFailed, Global};
 
-#[derive(Clone, Copy)]
+#[derive(Clone, Copy, PartialEq, Eq, Debug)]
 pub struct Session {
     pub at: Link,
     pub flow: FlowKey,
@@ -17,10 +19,22 @@ pub struct Session {
 }
 
 impl Session {
+    fn is_at(self, at: Link) -> bool
+        ensures { result ≡ same_link self.at at }
+    {
+        self.at == at
+    }
+
+    fn is_for(self, flow: FlowKey) -> bool
+        ensures { result ≡ same_flow self.flow flow }
+    {
+        self.flow == flow
+    }
+
     fn is(self, at: Link, flow: FlowKey) -> bool
         ensures { result ≡ is_of at flow self }
     {
-        self.at.same(at) && self.flow.same(flow)
+        self.is_at(at) && self.is_for(flow)
     }
 }
 
@@ -70,36 +84,23 @@ impl Sessions {
     fn is_open(&self, at: Link, flow: FlowKey) -> bool
         ensures { result ≡ open_at at flow (opened self.now) }
     {
-        for session in self.open.as_slice() {
-            if session.is(at, flow) {
-                return true;
-            }
-        }
-        false
+        self.open.iter().any(|session| session.is(at, flow))
     }
 
     // How many are open at a server, in all its places.
     fn count(&self, server: u8) -> usize
         ensures { result ≡ count_at server (opened self.now) }
     {
-        let mut count = 0usize;
-        for session in self.open.as_slice() {
-            if session.at.server == server {
-                count += 1;
-            }
-        }
-        count
+        self.open
+            .iter()
+            .filter(|session| session.at.server == server)
+            .count()
     }
 
     pub fn none_at(&self, at: Link) -> bool
         ensures { result ≡ empty_at at (opened self.now) }
     {
-        for session in self.open.as_slice() {
-            if session.at.same(at) {
-                return false;
-            }
-        }
-        true
+        self.open.iter().all(|session| !session.is_at(at))
     }
 
     pub fn open(&mut self, at: Link, flow: FlowKey, tick: u64) -> Result<(), AllocFailed<Session>>
@@ -125,22 +126,21 @@ impl Sessions {
     pub fn first_idle(&self, tick: u64) -> Option<Session>
         ensures { result ≡ first_idle tick (opened self.now) }
     {
-        for session in self.open.as_slice() {
-            if is_idle(session.seen, tick) {
-                return Some(*session);
-            }
-        }
-        None
+        self.open
+            .iter()
+            .copied()
+            .find(|session| is_idle(session.seen, tick))
+    }
+
+    fn position(&self, flow: FlowKey) -> Option<usize>
+        ensures { result ≡ position (λ s. same_flow s.flow flow) (opened self.now) }
+    {
+        self.open.iter().position(|session| session.is_for(flow))
     }
 
     // Where it was open, if it was.
     pub fn close(&mut self, flow: FlowKey) -> Option<Link> {
-        for i in 0..self.open.len() {
-            if self.open[i].flow.same(flow) {
-                let closed = self.open.remove(i);
-                return Some(closed.at);
-            }
-        }
-        None
+        let at = self.position(flow)?;
+        Some(self.open.remove(at).at)
     }
 }

@@ -22,12 +22,38 @@ mod servers;
 const MOST_HANDLED: usize = 10_000;
 
 // A forgotten place says so to the place after it and to the controller, until each has answered.
-#[derive(Clone, Copy)]
+#[derive(Clone, Copy, PartialEq, Eq, Debug)]
 pub struct Notice {
     place: Link,
     after: Link,
     server_heard: bool,
     controller_heard: bool,
+}
+
+// The place that a balancer knows, and the one of which the controller still tells it.
+#[derive(Clone, Copy, PartialEq, Eq, Debug)]
+pub struct Balancer {
+    pub known: Link,
+    telling: Option<Link>,
+}
+
+// What is on its way, and what was seen of the last command.
+#[derive(Drop)]
+struct Traffic {
+    post: Post,
+    seen: Vec<Event>,
+}
+
+impl Traffic {
+    fn see(&mut self, event: Event) -> Result<(), AllocError> {
+        self.seen.push(event)?;
+        Ok(())
+    }
+
+    fn send(&mut self, from: Machine, to: Machine, body: Body) -> Result<(), AllocError> {
+        let message = self.post.send(from, to, body)?;
+        self.see(Event::Sent(message))
+    }
 }
 
 #[derive(Drop)]
@@ -37,15 +63,11 @@ pub struct Stage {
     places: Vec<Place>,
     sessions: Sessions,
     notices: Vec<Notice>,
-    // The place that each balancer knows, and of which the controller still tells it.
-    known: Vec<Link>,
-    telling: Vec<Option<Link>>,
+    balancers: Vec<Balancer>,
     chain: Chain,
-    post: Post,
+    traffic: Traffic,
     // One for all machines.
     clock: Clock,
-    // What was seen of the last command.
-    seen: Vec<Event>,
 }
 
 impl Stage {
@@ -55,12 +77,13 @@ impl Stage {
             places: Vec::new(heap),
             sessions: Sessions::new(heap, room),
             notices: Vec::new(heap),
-            known: Vec::new(heap),
-            telling: Vec::new(heap),
+            balancers: Vec::new(heap),
             chain: Chain::new(0),
-            post: Post::new(heap),
+            traffic: Traffic {
+                post: Post::new(heap),
+                seen: Vec::new(heap),
+            },
             clock: Clock::new(),
-            seen: Vec::new(heap),
         };
         stage.reset(servers, balancers, room)?;
         Ok(stage)
@@ -78,7 +101,7 @@ impl Stage {
         self.places.clear();
         self.sessions.reset(room);
         self.notices.clear();
-        self.post.clear();
+        self.traffic.post.clear();
         self.clock = Clock::new();
         let first = self.chain.newest();
         self.places.push(Place {
@@ -93,17 +116,18 @@ impl Stage {
     }
 
     fn add_balancers(&mut self, balancers: u8, first: Link) -> Result<(), AllocError> {
-        self.known.clear();
-        self.telling.clear();
+        self.balancers.clear();
         for _ in 0..balancers {
-            self.known.push(first)?;
-            self.telling.push(None)?;
+            self.balancers.push(Balancer {
+                known: first,
+                telling: None,
+            })?;
         }
         Ok(())
     }
 
     pub fn seen(&self) -> &[Event] {
-        self.seen.as_slice()
+        self.traffic.seen.as_slice()
     }
 
     pub fn chain(&self) -> &Chain {
@@ -118,19 +142,19 @@ impl Stage {
         &self.sessions
     }
 
-    pub fn known(&self) -> &[Link] {
-        self.known.as_slice()
+    pub fn balancers(&self) -> &[Balancer] {
+        self.balancers.as_slice()
     }
 
     pub fn post(&self) -> &Post {
-        &self.post
+        &self.traffic.post
     }
 
     // One command. A fault has changed nothing.
     pub fn play(&mut self, command: Command) -> Result<(), Error>
         ensures { FaultChangesNothing result (machines self.old) (machines self.new) }
     {
-        self.seen.clear();
+        self.traffic.seen.clear();
         match command {
             Command::Packet {
                 balancer,
@@ -164,31 +188,23 @@ impl Stage {
         Ok(())
     }
 
-    fn see(&mut self, event: Event) -> Result<(), AllocError> {
-        self.seen.push(event)?;
-        Ok(())
-    }
-
-    fn send(&mut self, from: Machine, to: Machine, body: Body) -> Result<(), AllocError> {
-        let message = self.post.send(from, to, body)?;
-        self.see(Event::Sent(message))
-    }
-
     // A packet comes by a balancer, which sends it to the place that it knows, up.
     fn packet_comes(&mut self, balancer: u8, flow: FlowKey, opens: bool) -> Result<(), Error>
         ensures { FaultChangesNothing result (machines self.old) (machines self.new) }
     {
-        let Some(known) = self.known.get(balancer as usize) else {
-            return Err(Error::Of(Fault::NoSuch));
-        };
-        let at = *known;
+        let sender = self
+            .balancers
+            .get(usize::from(balancer))
+            .copied()
+            .ok_or(Fault::NoSuch)?;
+        let at = sender.known;
         let packet = Packet {
             flow,
             opens,
             at,
             way: Way::Up,
         };
-        self.send(
+        self.traffic.send(
             Machine::Balancer(balancer),
             Machine::Server(at.server),
             Body::Packet(packet),
@@ -198,17 +214,15 @@ impl Stage {
 
     fn close(&mut self, flow: FlowKey) -> Result<(), AllocError> {
         match self.sessions.close(flow) {
-            Some(at) => self.see(Event::Closed { at, flow }),
-            None => self.see(Event::NotOpen),
+            Some(at) => self.traffic.see(Event::Closed { at, flow }),
+            None => self.traffic.see(Event::NotOpen),
         }
     }
 
     fn deliver(&mut self, number: u32) -> Result<(), Error>
         ensures { FaultChangesNothing result (machines self.old) (machines self.new) }
     {
-        let Some(message) = self.post.take(number) else {
-            return Err(Error::Of(Fault::NoSuch));
-        };
+        let message = self.traffic.post.take(number).ok_or(Fault::NoSuch)?;
         self.handle(message)?;
         Ok(())
     }
@@ -216,9 +230,7 @@ impl Stage {
     fn next(&mut self) -> Result<(), Error>
         ensures { FaultChangesNothing result (machines self.old) (machines self.new) }
     {
-        let Some(message) = self.post.take_oldest() else {
-            return Err(Error::Of(Fault::NoSuch));
-        };
+        let message = self.traffic.post.take_oldest().ok_or(Fault::NoSuch)?;
         self.handle(message)?;
         Ok(())
     }
@@ -226,27 +238,23 @@ impl Stage {
     fn lose(&mut self, number: u32) -> Result<(), Error>
         ensures { FaultChangesNothing result (machines self.old) (machines self.new) }
     {
-        let Some(message) = self.post.take(number) else {
-            return Err(Error::Of(Fault::NoSuch));
-        };
-        self.see(Event::Lost(message))?;
+        let message = self.traffic.post.take(number).ok_or(Fault::NoSuch)?;
+        self.traffic.see(Event::Lost(message))?;
         Ok(())
     }
 
     fn repeat(&mut self, number: u32) -> Result<(), Error>
         ensures { FaultChangesNothing result (machines self.old) (machines self.new) }
     {
-        let Some(message) = self.post.find(number) else {
-            return Err(Error::Of(Fault::NoSuch));
-        };
-        self.send(message.from, message.to, message.body)?;
+        let message = self.traffic.post.find(number).ok_or(Fault::NoSuch)?;
+        self.traffic.send(message.from, message.to, message.body)?;
         Ok(())
     }
 
     // Oldest first, until nothing is on its way.
     fn all(&mut self) -> Result<(), AllocError> {
         for _ in 0..MOST_HANDLED {
-            let Some(message) = self.post.take_oldest() else {
+            let Some(message) = self.traffic.post.take_oldest() else {
                 return Ok(());
             };
             self.handle(message)?;
@@ -258,9 +266,7 @@ impl Stage {
     fn pass(&mut self, count: u32) -> Result<(), Error>
         ensures { FaultChangesNothing result (machines self.old) (machines self.new) }
     {
-        let Some(clock) = self.clock.advanced(count) else {
-            return Err(Error::Of(Fault::NoSuch));
-        };
+        let clock = self.clock.advanced(count).ok_or(Fault::NoSuch)?;
         self.clock = clock;
         self.close_idle(clock.now())?;
         Ok(())
@@ -272,7 +278,7 @@ impl Stage {
                 return Ok(());
             };
             self.sessions.close(session.flow);
-            self.see(Event::Idle {
+            self.traffic.see(Event::Idle {
                 at: session.at,
                 flow: session.flow,
             })?;
@@ -281,7 +287,7 @@ impl Stage {
     }
 
     fn handle(&mut self, message: Message) -> Result<(), AllocError> {
-        self.see(Event::Handled(message))?;
+        self.traffic.see(Event::Handled(message))?;
         match message.to {
             Machine::Controller => self.at_controller(message),
             Machine::Server(server) => self.at_server(server, message),

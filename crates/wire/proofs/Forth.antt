@@ -23,7 +23,7 @@ use Rattle.wire.specs.declared.message.Order.TheVariants.{Closed, Added, Removed
 use Rattle.wire.specs.Stops.{unplaced}
 use Rattle.wire.specs.Meant.{Meant, Carried, Said, Answered, Back, Ordered}
 use Rattle.wire.specs.Format.{Width, one, two, four, size, value, digits, Field, Format, judged, read_fields, onward, stopped, read_all, put}
-use Rattle.wire.specs.Formats.{stand, behind, door, forgotten, closed, added, removed, ticks, packet, refused, link_of, link_or_none, way_of, asker_of, opens_byte, inside_of, carried_by, unless, among, fixed, reached, nowhere}
+use Rattle.wire.specs.Formats.{server_f, plain_f, stand, behind, door, forgotten, closed, added, removed, ticks, packet, refused, link_of, link_or_none, way_of, asker_of, opens_byte, inside_of, carried_by, unless, among, fixed, reached, nowhere}
 use Rattle.wire.specs.Messages.{like, formats, format_in, read_by, kind_of, values, payload, encode, control_kind, control_values, order_kind, order_values}
 use Rattle.wire.specs.Laws.{below, Fits, RealControl, TrueTo, Proper, Bytes, WrittenAgain}
 use Rattle.wire.proofs.Numbers.{number_cut}
@@ -119,21 +119,21 @@ stand_law B (b ∷ p ∷ q ∷ s ∷ []) h = let w = h.2.2.2.1 in (refl, grind (
 abbrev link_in : List ℕ → Link
 link_in vs = link_of (get_or vs 2 0) (get_or vs 3 0)
 
+-- a place and the place after it
+neighbour_law : (k : ℕ) (make : ℕ → ℕ → Link → Control) → ((b p : ℕ) (l : Link) → (control_kind (make b p l) ≡ k) × (control_values (make b p l) ≡ b ∷ p ∷ l.place ∷ l.server ∷ []) × RealControl (make b p l))
+    → ControlLaw k behind.fields (λ vs. make (get_or vs 0 0) (get_or vs 1 0) (link_in vs))
+neighbour_law k make law B [] h = absurd h
+neighbour_law k make law B (b ∷ []) h = absurd h.2
+neighbour_law k make law B (b ∷ p ∷ []) h = absurd h.2.2
+neighbour_law k make law B (b ∷ p ∷ q ∷ []) h = absurd h.2.2.2
+neighbour_law k make law B (b ∷ p ∷ q ∷ s ∷ t ∷ vs) h = absurd h.2.2.2.2
+neighbour_law k make law B (b ∷ p ∷ q ∷ s ∷ []) h = law b p (link_of q s)
+
 behind_law : ControlLaw 3 behind.fields (λ vs. Behind (get_or vs 0 0) (get_or vs 1 0) (link_in vs))
-behind_law B [] h = absurd h
-behind_law B (b ∷ []) h = absurd h.2
-behind_law B (b ∷ p ∷ []) h = absurd h.2.2
-behind_law B (b ∷ p ∷ q ∷ []) h = absurd h.2.2.2
-behind_law B (b ∷ p ∷ q ∷ s ∷ t ∷ vs) h = absurd h.2.2.2.2
-behind_law B (b ∷ p ∷ q ∷ s ∷ []) h = (refl, refl, tt)
+behind_law = neighbour_law 3 Behind (λ b p l. (refl, refl, tt))
 
 forgotten_law : ControlLaw 5 forgotten.fields (λ vs. Forgotten (get_or vs 0 0) (get_or vs 1 0) (link_in vs))
-forgotten_law B [] h = absurd h
-forgotten_law B (b ∷ []) h = absurd h.2
-forgotten_law B (b ∷ p ∷ []) h = absurd h.2.2
-forgotten_law B (b ∷ p ∷ q ∷ []) h = absurd h.2.2.2
-forgotten_law B (b ∷ p ∷ q ∷ s ∷ t ∷ vs) h = absurd h.2.2.2.2
-forgotten_law B (b ∷ p ∷ q ∷ s ∷ []) h = (refl, refl, tt)
+forgotten_law = neighbour_law 5 Forgotten (λ b p l. (refl, refl, tt))
 
 door_law : ControlLaw 4 door.fields (λ vs. Door (get_or vs 0 0) (link_of (get_or vs 1 0) (get_or vs 2 0)))
 door_law B [] h = absurd h
@@ -142,20 +142,20 @@ door_law B (b ∷ p ∷ []) h = absurd h.2.2
 door_law B (b ∷ p ∷ s ∷ t ∷ vs) h = absurd h.2.2.2
 door_law B (b ∷ p ∷ s ∷ []) h = (refl, refl, tt)
 
+-- one number
+number_law : (f : Field) (k : ℕ) (make : ℕ → Order) → ((n : ℕ) → (order_kind (make n) ≡ k) × (order_values (make n) ≡ n ∷ [])) → OrderLaw k (f ∷ []) (λ vs. make (get_or vs 0 0))
+number_law f k make law B [] h = absurd h
+number_law f k make law B (n ∷ t ∷ vs) h = absurd h.2
+number_law f k make law B (n ∷ []) h = law n
+
 added_law : OrderLaw 8 added.fields (λ vs. Added (get_or vs 0 0))
-added_law B [] h = absurd h
-added_law B (s ∷ t ∷ vs) h = absurd h.2
-added_law B (s ∷ []) h = (refl, refl)
+added_law = number_law server_f 8 Added (λ n. (refl, refl))
 
 removed_law : OrderLaw 9 removed.fields (λ vs. Removed (get_or vs 0 0))
-removed_law B [] h = absurd h
-removed_law B (s ∷ t ∷ vs) h = absurd h.2
-removed_law B (s ∷ []) h = (refl, refl)
+removed_law = number_law server_f 9 Removed (λ n. (refl, refl))
 
 ticks_law : OrderLaw 10 ticks.fields (λ vs. Ticks (get_or vs 0 0))
-ticks_law B [] h = absurd h
-ticks_law B (s ∷ t ∷ vs) h = absurd h.2
-ticks_law B (s ∷ []) h = (refl, refl)
+ticks_law = number_law (plain_f four) 10 Ticks (λ n. (refl, refl))
 
 protocol_back : (n : ℕ) → unless (is_some (protocol_of n)) BadPacket ≡ None → protocol_number (unwrap_or (protocol_of n) Tcp) ≡ n
 protocol_back n e = grind (arith, nat_tests)

@@ -3,3 +3,4 @@ pub mod Cuts
 pub mod Positions
 pub mod Again
 pub mod Forth
+pub mod Numbered

@@ -1,8 +1,10 @@
 pub mod Stops
+pub mod Controls
 pub mod Meant
 pub mod Seen
 pub mod Format
 pub mod Formats
 pub mod Messages
+pub mod Kinds
 pub mod Forwarding
 pub mod Laws

@@ -1,27 +1,28 @@
 // What machines say to each other, and what a reader says of bytes that are no message.
 ghost use Rattle.std.specs.Prelude.{◌≡◌, Some};
 ghost use Rattle.wire.specs.Stops.{located, unplaced};
+ghost use Rattle.wire.specs.Controls.{bucket_in};
 
 use chain::way::{Link, Way};
 use fault::{Fault, Refusal};
 use flow::key::FlowKey;
 
 // A place of a bucket's chain.
-#[derive(Clone, Copy)]
+#[derive(Clone, Copy, PartialEq, Eq, Debug)]
 pub struct At {
     pub bucket: u16,
     pub place: u32,
 }
 
 // The first fault of some bytes, and the place that they speak of, if that was read before the fault.
-#[derive(Clone, Copy)]
+#[derive(Clone, Copy, PartialEq, Eq, Debug)]
 pub struct Unread {
     pub fault: Fault,
     pub at: Option<At>,
 }
 
-// What is said about the places of a bucket.
-#[derive(Clone, Copy)]
+// What is said about the places of a bucket, with its fields as they lie in the bytes, and so without an At.
+#[derive(Clone, Copy, PartialEq, Eq, Debug)]
 pub enum Control {
     // Be this place, behind the one before.
     Stand {
@@ -49,7 +50,7 @@ pub enum Control {
 }
 
 // What somebody outside tells a machine.
-#[derive(Clone, Copy)]
+#[derive(Clone, Copy, PartialEq, Eq, Debug)]
 pub enum Order {
     // A session is closed.
     Closed(FlowKey),
@@ -61,8 +62,8 @@ pub enum Order {
     Ticks(u32),
 }
 
-// Where a packet between machines goes, on which way, and whether it may open a session.
-#[derive(Clone, Copy)]
+// Where a packet between machines goes, on which way, and whether it may open a session: its fields as they lie in the bytes, and so without an At.
+#[derive(Clone, Copy, PartialEq, Eq, Debug)]
 pub struct Head {
     pub bucket: u16,
     pub place: u32,
@@ -70,7 +71,7 @@ pub struct Head {
     pub opens: bool,
 }
 
-#[derive(Clone, Copy)]
+#[derive(Clone, Copy, PartialEq, Eq, Debug)]
 pub enum Message<'a> {
     // A packet on its way between machines, with the session that it names.
     Packet {
@@ -89,18 +90,29 @@ pub enum Message<'a> {
     Order(Order),
 }
 
+impl Control {
+    // The bucket that it speaks of.
+    pub fn bucket(self) -> u16
+        ensures { result ≡ bucket_in self }
+    {
+        match self {
+            Control::Stand { bucket, .. }
+            | Control::Behind { bucket, .. }
+            | Control::Door { bucket, .. }
+            | Control::Forgotten { bucket, .. } => bucket,
+        }
+    }
+}
+
 impl At {
     // What was found behind this place, or the fault there.
     pub fn found<T>(self, found: Result<T, Fault>) -> Result<T, Unread>
         ensures { result ≡ located (Some self) found }
     {
-        match found {
-            Ok(x) => Ok(x),
-            Err(fault) => Err(Unread {
-                fault,
-                at: Some(self),
-            }),
-        }
+        found.map_err(|fault| Unread {
+            fault,
+            at: Some(self),
+        })
     }
 }
 

@@ -1,3 +1,2 @@
-pub mod Inside
 pub mod Located
 pub mod Fields

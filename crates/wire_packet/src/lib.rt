@@ -4,15 +4,16 @@
 pub mod number;
 pub mod place;
 
-ghost use Rattle.std.specs.Prelude.{◌≡◌, [], ◌∷◌, drop, Some, None};
+ghost use Rattle.std.specs.Prelude.{◌≡◌, [], ◌∷◌, drop, Some, None, ok_or};
+ghost use Rattle.fault.specs.declared.Fault.TheVariants.{NoSuch};
 ghost use Rattle.chain.specs.Ways.{way_number};
 ghost use Rattle.wire.specs.Seen.{seen};
 ghost use Rattle.wire.specs.Stops.{located};
-ghost use Rattle.wire.specs.Format.{read_field, read_fields, ended, read_all};
+ghost use Rattle.wire.specs.Format.{two, number_in, read_field, read_fields, ended, read_all};
 ghost use Rattle.wire.specs.Formats.{way_f, asker_f, asker_server_f, may_open_f, reached, inside_of, packet, refused};
-ghost use Rattle.wire_packet.specs.Views.{shown_asker, shown_way, shown_opens};
+ghost use Rattle.wire_packet.specs.Views.{course_number, course_numbered, shown_asker, shown_way, shown_opens, sized, shown_bytes};
 
-use crate::number::{split8, split16, split32};
+use crate::number::Number;
 use crate::place::read_at;
 use chain::way::{Link, Way};
 use fault::{Fault, Refusal};
@@ -20,19 +21,42 @@ use flow::buckets::Buckets;
 use flow::key::FlowKey;
 use wire::message::{At, Head, Message, Unread};
 
+// The way of a packet, before it is known who began to ask.
+#[derive(Clone, Copy, PartialEq, Eq)]
+enum Course {
+    Up,
+    Down,
+    Asked,
+}
+
+impl TryFrom<u8> for Course {
+    type Error = Fault;
+
+    ghost try_from_gives = { λ n r. r ≡ ok_or (course_numbered n) NoSuch };
+
+    fn try_from(number: u8) -> Result<Course, Fault> {
+        match number {
+            1 => Ok(Course::Up),
+            2 => Ok(Course::Down),
+            3 => Ok(Course::Asked),
+            _ => Err(Fault::NoSuch),
+        }
+    }
+}
+
 // Who began to ask, at a place and on a way: nobody if up, and only that place itself if asked.
-fn read_asker(at: At, way: u8, bytes: &[u8]) -> Result<(Link, &[u8]), Fault>
-    ensures { shown_asker at way result ≡ read_fields reached 0 (asker_f ∷ asker_server_f ∷ []) (at.bucket ∷ at.place ∷ way ∷ []) bytes.now }
+fn read_asker(at: At, course: Course, bytes: &[u8]) -> Result<(Link, &[u8]), Fault>
+    ensures { shown_asker at (course_number course) result ≡ read_fields reached 0 (asker_f ∷ asker_server_f ∷ []) (at.bucket ∷ at.place ∷ course_number course ∷ []) bytes.now }
 {
-    let (place, rest) = split32(bytes)?;
-    if (place == 0) != (way == 1) {
+    let (place, rest) = u32::split(bytes)?;
+    if (place == 0) != (course == Course::Up) {
         return Err(Fault::NoSuch);
     }
-    if way == 3 && place != at.place {
+    if course == Course::Asked && place != at.place {
         return Err(Fault::WrongAsker);
     }
-    let (server, rest) = split8(rest)?;
-    if way == 1 && server != 0 {
+    let (server, rest) = u8::split(rest)?;
+    if course == Course::Up && server != 0 {
         return Err(Fault::NoSuch);
     }
     Ok((Link { place, server }, rest))
@@ -42,15 +66,13 @@ fn read_asker(at: At, way: u8, bytes: &[u8]) -> Result<(Link, &[u8]), Fault>
 fn read_way(at: At, bytes: &[u8]) -> Result<(Way, &[u8]), Fault>
     ensures { shown_way at result ≡ read_fields reached 0 (way_f ∷ asker_f ∷ asker_server_f ∷ []) (at.bucket ∷ at.place ∷ []) bytes.now }
 {
-    let (number, rest) = split8(bytes)?;
-    if number < 1 || number > 3 {
-        return Err(Fault::NoSuch);
-    }
-    let (asker, rest) = read_asker(at, number, rest)?;
-    let way = match number {
-        1 => Way::Up,
-        2 => Way::Down(asker),
-        _ => Way::Asked(asker),
+    let (number, rest) = u8::split(bytes)?;
+    let course = Course::try_from(number)?;
+    let (asker, rest) = read_asker(at, course, rest)?;
+    let way = match course {
+        Course::Up => Way::Up,
+        Course::Down => Way::Down(asker),
+        Course::Asked => Way::Asked(asker),
     };
     Ok((way, rest))
 }
@@ -59,17 +81,31 @@ fn read_way(at: At, bytes: &[u8]) -> Result<(Way, &[u8]), Fault>
 fn read_opens(way: Way, bytes: &[u8]) -> Result<(bool, &[u8]), Fault>
     ensures { shown_opens result ≡ read_field 0 may_open_f (0 ∷ 0 ∷ way_number way ∷ []) bytes.now }
 {
-    let (opens, rest) = split8(bytes)?;
-    if opens > 1 {
-        return Err(Fault::NoSuch);
-    }
+    let (number, rest) = u8::split(bytes)?;
+    let opens = match number {
+        0 => false,
+        1 => true,
+        _ => return Err(Fault::NoSuch),
+    };
     match way {
-        Way::Asked(_) if opens == 0 => Err(Fault::WrongAsker),
-        _ => Ok((opens == 1, rest)),
+        Way::Asked(_) if !opens => Err(Fault::WrongAsker),
+        _ => Ok((opens, rest)),
     }
 }
 
+// The packet behind its length, to the end of the message.
+fn read_sized(bytes: &[u8]) -> Result<&[u8], Fault>
+    ensures { shown_bytes result ≡ sized (number_in two bytes.now) }
+{
+    let (length, packet) = u16::split(bytes)?;
+    if packet.len() != usize::from(length) {
+        return Err(Fault::Malformed);
+    }
+    Ok(packet)
+}
+
 // The session of the packet inside, which is in this bucket.
+#[tactic(auto, unfolding(wire::specs::Formats::inside_of))]
 fn read_inside(bucket: u16, packet: &[u8], buckets: Buckets) -> Result<FlowKey, Fault>
     ensures { result ≡ inside_of buckets.count bucket packet.now }
 {
@@ -86,10 +122,7 @@ fn read_carried(at: At, bytes: &[u8], buckets: Buckets) -> Result<Message<'_>, F
 {
     let (way, rest) = read_way(at, bytes)?;
     let (opens, rest) = read_opens(way, rest)?;
-    let (length, inside) = split16(rest)?;
-    if inside.len() != usize::from(length) {
-        return Err(Fault::Malformed);
-    }
+    let inside = read_sized(rest)?;
     let flow = read_inside(at.bucket, inside, buckets)?;
     Ok(Message::Packet {
         head: Head {
@@ -113,13 +146,8 @@ pub fn read_packet(bytes: &[u8], buckets: Buckets) -> Result<Message<'_>, Unread
 pub fn read_refused(bytes: &[u8]) -> Result<Message<'_>, Fault>
     ensures { located None (seen result) ≡ read_all refused 0 bytes.now }
 {
-    let (number, rest) = split8(bytes)?;
-    let Some(refusal) = Refusal::from_number(number) else {
-        return Err(Fault::NoSuch);
-    };
-    let (length, packet) = split16(rest)?;
-    if packet.len() != usize::from(length) {
-        return Err(Fault::Malformed);
-    }
+    let (number, rest) = u8::split(bytes)?;
+    let refusal = Refusal::try_from(number)?;
+    let packet = read_sized(rest)?;
     Ok(Message::Refused { refusal, packet })
 }

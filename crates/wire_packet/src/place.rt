@@ -4,7 +4,7 @@ ghost use Rattle.wire.specs.Format.{four, read_fields};
 ghost use Rattle.wire.specs.Formats.{bucket_f, plain_f, reached};
 ghost use Rattle.wire_packet.specs.Views.{shown_at};
 
-use crate::number::{split16, split32};
+use crate::number::Number;
 use fault::Fault;
 use flow::buckets::Buckets;
 use wire::message::At;
@@ -13,10 +13,10 @@ use wire::message::At;
 pub fn read_at(bytes: &[u8], buckets: Buckets) -> Result<(At, &[u8]), Fault>
     ensures { shown_at result ≡ read_fields reached buckets.count (bucket_f ∷ plain_f four ∷ []) [] bytes.now }
 {
-    let (bucket, rest) = split16(bytes)?;
+    let (bucket, rest) = u16::split(bytes)?;
     if u32::from(bucket) >= buckets.count() {
         return Err(Fault::NoSuch);
     }
-    let (place, rest) = split32(rest)?;
+    let (place, rest) = u32::split(rest)?;
     Ok((At { bucket, place }, rest))
 }

@@ -1,15 +1,19 @@
 // Stand, behind you, door and forgotten as bytes.
-ghost use Rattle.std.specs.Prelude.{◌≡◌, [], ◌∷◌};
-ghost use Rattle.wire.specs.Format.{read_all, read_fields};
-ghost use Rattle.wire.specs.Formats.{bucket_f, place_f, before_f, server_before_f, after_f, server_f, reached, stand, behind, door, forgotten};
+ghost use Rattle.std.specs.Prelude.{◌≡◌, [], ◌∷◌, drop, Some};
+ghost use Rattle.wire.specs.Stops.{located};
+ghost use Rattle.wire.specs.Format.{ended, read_all, read_fields};
+ghost use Rattle.wire.specs.Formats.{bucket_f, place_f, before_f, server_before_f, after_f, server_f, reached};
+ghost use Rattle.wire.specs.Kinds.{topic_format};
 ghost use Rattle.wire_packet.specs.Views.{shown_at};
-ghost use Rattle.wire_read.specs.Views.{told_link, told_server, read_rest};
+ghost use Rattle.wire_read.specs.Views.{link_before, link_behind, read_rest};
 
+use crate::end::{ended, read_last};
 use chain::way::Link;
 use fault::Fault;
 use flow::buckets::Buckets;
+use wire::kind::Topic;
 use wire::message::{At, Control, Unread};
-use wire_packet::number::{split8, split32};
+use wire_packet::number::Number;
 use wire_packet::place::read_at;
 
 // The place that a message speaks of, and the bytes behind it. Places are numbered from 1.
@@ -24,93 +28,68 @@ fn read_numbered(bytes: &[u8], buckets: Buckets) -> Result<(At, &[u8]), Fault>
 }
 
 // The place before `at`, with number 0 for none, and its server.
-fn read_before(at: At, bytes: &[u8]) -> Result<Link, Fault>
-    ensures { told_link at result ≡ read_rest 0 (before_f ∷ server_before_f ∷ []) (at.bucket ∷ at.place ∷ []) bytes.now }
+fn read_before(at: At, bytes: &[u8]) -> Result<Option<Link>, Fault>
+    ensures { located (Some at) result ≡ read_rest link_before (before_f ∷ server_before_f ∷ []) at bytes.now }
 {
-    let (place, rest) = split32(bytes)?;
+    let (place, rest) = u32::split(bytes)?;
     if place >= at.place {
         return Err(Fault::NoSuch);
     }
-    let (server, rest) = split8(rest)?;
+    let (server, rest) = u8::split(rest)?;
     if place == 0 && server != 0 {
         return Err(Fault::NoSuch);
     }
-    if !rest.is_empty() {
-        return Err(Fault::Malformed);
-    }
-    Ok(Link { place, server })
+    ended(rest)?;
+    Ok((place != 0).then_some(Link { place, server }))
 }
 
 // A place after `at`, and its server.
 fn read_after(at: At, bytes: &[u8]) -> Result<Link, Fault>
-    ensures { told_link at result ≡ read_rest 0 (after_f ∷ server_f ∷ []) (at.bucket ∷ at.place ∷ []) bytes.now }
+    ensures { located (Some at) result ≡ read_rest link_behind (after_f ∷ server_f ∷ []) at bytes.now }
 {
-    let (place, rest) = split32(bytes)?;
+    let (place, rest) = u32::split(bytes)?;
     if place <= at.place {
         return Err(Fault::NoSuch);
     }
-    let (server, rest) = split8(rest)?;
-    if !rest.is_empty() {
-        return Err(Fault::Malformed);
-    }
+    let server = read_last(rest)?;
     Ok(Link { place, server })
 }
 
-// The server that stands in `at`.
-fn read_server(at: At, bytes: &[u8]) -> Result<u8, Fault>
-    ensures { told_server at result ≡ read_rest 0 (server_f ∷ []) (at.bucket ∷ at.place ∷ []) bytes.now }
+// What is said about the place `at`.
+fn read_about(topic: Topic, at: At, bytes: &[u8]) -> Result<Control, Fault>
+    ensures { located (Some at) result ≡ ended (topic_format topic) 0 (read_fields reached 0 (drop 2 (topic_format topic).fields) (at.bucket ∷ at.place ∷ []) bytes.now) }
 {
-    let (server, rest) = split8(bytes)?;
-    if !rest.is_empty() {
-        return Err(Fault::Malformed);
-    }
-    Ok(server)
-}
-
-pub fn read_stand(bytes: &[u8], buckets: Buckets) -> Result<Control, Unread>
-    ensures { result ≡ read_all stand buckets.count bytes.now }
-{
-    let (at, rest) = read_numbered(bytes, buckets)?;
-    let link = at.found(read_before(at, rest))?;
-    let before = if link.place == 0 { None } else { Some(link) };
-    Ok(Control::Stand {
-        bucket: at.bucket,
-        place: at.place,
-        before,
-    })
-}
-
-pub fn read_behind(bytes: &[u8], buckets: Buckets) -> Result<Control, Unread>
-    ensures { result ≡ read_all behind buckets.count bytes.now }
-{
-    let (at, rest) = read_numbered(bytes, buckets)?;
-    Ok(Control::Behind {
-        bucket: at.bucket,
-        place: at.place,
-        after: at.found(read_after(at, rest))?,
-    })
-}
-
-pub fn read_forgotten(bytes: &[u8], buckets: Buckets) -> Result<Control, Unread>
-    ensures { result ≡ read_all forgotten buckets.count bytes.now }
-{
-    let (at, rest) = read_numbered(bytes, buckets)?;
-    Ok(Control::Forgotten {
-        bucket: at.bucket,
-        place: at.place,
-        after: at.found(read_after(at, rest))?,
-    })
-}
-
-pub fn read_door(bytes: &[u8], buckets: Buckets) -> Result<Control, Unread>
-    ensures { result ≡ read_all door buckets.count bytes.now }
-{
-    let (at, rest) = read_numbered(bytes, buckets)?;
-    Ok(Control::Door {
-        bucket: at.bucket,
-        newest: Link {
-            place: at.place,
-            server: at.found(read_server(at, rest))?,
+    let At { bucket, place } = at;
+    Ok(match topic {
+        Topic::Stand => Control::Stand {
+            bucket,
+            place,
+            before: read_before(at, bytes)?,
+        },
+        Topic::Behind => Control::Behind {
+            bucket,
+            place,
+            after: read_after(at, bytes)?,
+        },
+        Topic::Door => Control::Door {
+            bucket,
+            newest: Link {
+                place,
+                server: read_last(bytes)?,
+            },
+        },
+        Topic::Forgotten => Control::Forgotten {
+            bucket,
+            place,
+            after: read_after(at, bytes)?,
         },
     })
+}
+
+// A message about a place, by what it is about.
+pub fn read_control(topic: Topic, bytes: &[u8], buckets: Buckets) -> Result<Control, Unread>
+    ensures { result ≡ read_all (topic_format topic) buckets.count bytes.now }
+{
+    let (at, rest) = read_numbered(bytes, buckets)?;
+    at.found(read_about(topic, at, rest))
 }

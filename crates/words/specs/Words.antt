@@ -1,11 +1,11 @@
 -- Words and numbers in a line of text, by its bytes. Assumes nothing.
-use Rattle.std.specs.Prelude.{ℕ, suc, ◌+◌, ◌-◌, ◌*◌, Bool, cond, ◌&&◌, List, [], ◌∷◌, take, drop, Some, None, Option, ◌==◌, nat_le, nat_lt, slice_index}
+use Rattle.std.specs.Prelude.{ℕ, ◌+◌, ◌-◌, ◌*◌, Bool, cond, ◌&&◌, List, [], ◌∷◌, take, drop, Some, None, Option, ◌==◌, nat_le, nat_lt, slice_index}
+use Rattle.std.specs.List.{position_or_len}
 use Rattle.std.specs.Borrow.{Bor}
 
 -- the first word ends before the first space
-unfoldable pub word_length : List ℕ → ℕ
-word_length [] = 0
-word_length (c ∷ cs) = cond (c == 32) 0 (suc (word_length cs))
+abbrev pub word_length : List ℕ → ℕ
+word_length = position_or_len (λ c. c == 32)
 
 abbrev pub word_of : List ℕ → List ℕ
 word_of line = take (word_length line) line

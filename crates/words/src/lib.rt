@@ -1,26 +1,19 @@
 // Words and numbers in a line of text: words have a space between them, numbers are decimal.
 #![tactic(auto)]
 
-ghost use Rattle.std.specs.Prelude.{◌≡◌, ◌≤◌, length};
-ghost use Rattle.std.specs.Str.{bytes_eq};
-ghost use Rattle.words.specs.Words.{word_length, word_of, rest_of, seen, after_space, with_digit, numeral};
+ghost use Rattle.std.specs.Prelude.{◌≡◌, ◌==◌, position};
+ghost use Rattle.words.specs.Words.{word_of, rest_of, seen, after_space, with_digit, numeral};
 
-const SPACE: u8 = 32;
+const SPACE: u8 = b' ';
 
 // Numbers of more digits than this can hold are all the same to a reader: too large.
 const LARGE: u32 = 100_000_000;
 
-// Where the first word ends.
-fn word_end(line: &[u8]) -> usize
-    ensures value { result ≡ word_length line.now }
-    ensures within { result ≤ length line.now }
+// Where the first space is.
+fn first_space(line: &[u8]) -> Option<usize>
+    ensures { result ≡ position (λ byte. byte == 32) line.now }
 {
-    for i in 0..line.len() {
-        if line[i] == SPACE {
-            return i;
-        }
-    }
-    line.len()
+    line.iter().position(|byte| *byte == SPACE)
 }
 
 // The first word, and what is behind it, with the space.
@@ -28,18 +21,17 @@ pub fn split_word(line: &[u8]) -> (&[u8], &[u8])
     ensures word { result.0.now ≡ word_of line.now }
     ensures rest { result.1.now ≡ rest_of line.now }
 {
-    let end = word_end(line);
-    (&line[0..end], &line[end..line.len()])
+    line.split_at(first_space(line).unwrap_or(line.len()))
 }
 
 // What is behind a space, if there is one in front.
 pub fn after_space(rest: &[u8]) -> Option<&[u8]>
     ensures { seen result ≡ after_space rest.now }
 {
-    if rest.is_empty() || rest[0] != SPACE {
+    let [SPACE, behind @ ..] = rest else {
         return None;
-    }
-    Some(&rest[1..rest.len()])
+    };
+    Some(behind)
 }
 
 // A number with one decimal digit more.
@@ -47,17 +39,10 @@ pub fn with_digit(n: u32, byte: u8) -> Option<u32>
     ensures { result ≡ with_digit n byte }
 {
     match byte {
-        48..=57 if n < LARGE => Some(n * 10 + u32::from(byte - 48)),
-        48..=57 => Some(n),
+        b'0'..=b'9' if n < LARGE => Some(n * 10 + u32::from(byte - b'0')),
+        b'0'..=b'9' => Some(n),
         _ => None,
     }
-}
-
-// Is the word this one?
-pub fn is(word: &[u8], name: &[u8]) -> bool
-    ensures { result ≡ bytes_eq word.now name.now }
-{
-    word == name
 }
 
 // A number, by its decimal digits.
@@ -68,11 +53,8 @@ pub fn number(digits: &[u8]) -> Option<u32>
         return None;
     }
     let mut n = 0;
-    for c in digits {
-        let Some(more) = with_digit(n, *c) else {
-            return None;
-        };
-        n = more;
+    for digit in digits {
+        n = with_digit(n, *digit)?;
     }
     Some(n)
 }

@@ -1,5 +1,5 @@
 // How the controller's chain of one bucket changes: a handover in its three phases, and places that are forgotten.
-ghost use Rattle.std.specs.Prelude.{◌≡◌, length};
+ghost use Rattle.std.specs.Prelude.{◌≡◌, length, nat_le, position};
 ghost use Rattle.chain.specs.Controllers.{newest_of, first_control, begins, hears_stood, hears_told, above, hears_forgotten};
 ghost use Rattle.chain.specs.Kept.{links_of, control};
 
@@ -82,7 +82,7 @@ impl Chain {
         let Handover::AwaitTold(link) = self.handover else {
             return false;
         };
-        if place != self.links[0].place || !after.same(link) {
+        if place != self.links[0].place || after != link {
             return false;
         }
         self.links.rotate_right(1);
@@ -99,19 +99,21 @@ impl Chain {
         if place >= self.links[0].place {
             return false;
         }
-        self.len = self.count_above(place);
+        self.len = count_above(self.links(), place);
         true
     }
+}
 
-    // How many of the places kept have a higher number.
-    fn count_above(&self, place: u32) -> usize
-        ensures { result ≡ length (above place (links_of self.now)) }
-    {
-        for i in 0..self.len {
-            if self.links[i].place <= place {
-                return i;
-            }
-        }
-        self.len
-    }
+// Where the first of the places stands that is not above the number.
+fn first_not_above(links: &[Link], place: u32) -> Option<usize>
+    ensures { result ≡ position (λ l. nat_le l.place place) links.now }
+{
+    links.iter().position(|link| link.place <= place)
+}
+
+// How many of the places, newest first, have a higher number.
+fn count_above(links: &[Link], place: u32) -> usize
+    ensures { result ≡ length (above place links.now) }
+{
+    first_not_above(links, place).unwrap_or(links.len())
 }

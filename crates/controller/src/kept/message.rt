@@ -1,8 +1,8 @@
 // What the controller is told: a place is forgotten.
-ghost use Rattle.std.specs.Prelude.{◌≡◌, ◌<◌, length, Ok, vec_len};
+ghost use Rattle.std.specs.Prelude.{◌≡◌};
 ghost use Rattle.machine.specs.Outboxes.{sent_of};
 ghost use Rattle.machine.specs.Steps.{Did};
-ghost use Rattle.controller.specs.Rules.{bucket_in, parted_at, told, forgets};
+ghost use Rattle.controller.specs.Rules.{parted_at, told};
 ghost use Rattle.controller.specs.Kept.{ruling};
 
 use super::Controller;
@@ -14,21 +14,8 @@ use machine::outbox::Outbox;
 use machine::sent::{Note, Sent};
 use wire::message::Control;
 
-// The bucket that a message speaks of.
-pub(crate) fn bucket_in(control: Control) -> u16
-    ensures { result ≡ bucket_in control }
-{
-    match control {
-        Control::Stand { bucket, .. } => bucket,
-        Control::Behind { bucket, .. } => bucket,
-        Control::Door { bucket, .. } => bucket,
-        Control::Forgotten { bucket, .. } => bucket,
-    }
-}
-
 // The servers of the places up to this one left a chain at the tick.
-fn part(parted: &mut [u64], links: &[Link], place: u32, tick: u64)
-    requires { length parted.old ≡ 256 }
+fn part(parted: &mut [u64; 256], links: &[Link], place: u32, tick: u64)
     ensures { parted.new ≡ parted_at tick place links.now parted.old }
 {
     for link in links {
@@ -40,50 +27,29 @@ fn part(parted: &mut [u64], links: &[Link], place: u32, tick: u64)
 
 impl Controller {
     // Told by a machine. A bucket that is not there and what is no message to a controller are refused.
+    // All places up to the one told of leave the chain, and that is answered; but not where no newer one is kept.
     // A refusal and want of memory change nothing.
     pub fn told(&mut self, from: Machine, control: Control, out: &mut Outbox) -> Result<(), Error>
         ensures { Did (told from control (ruling self.old)) result (ruling self.old) (ruling self.new) (sent_of out.old) (sent_of out.new) }
     {
-        if usize::from(bucket_in(control)) >= self.charges.len() {
+        let bucket = control.bucket();
+        let Some(charge) = self.charges.get_mut(usize::from(bucket)) else {
             return Err(Error::Of(Fault::NoSuch));
-        }
-        match control {
-            Control::Forgotten { bucket, place, .. } => {
-                self.forgotten(from, control, bucket, place, out)
-            }
-            _ => Err(Error::Of(Fault::Malformed)),
-        }
-    }
-
-    // All places up to this one leave the chain, and that is answered; but not where no newer one is kept.
-    fn forgotten(
-        &mut self,
-        from: Machine,
-        control: Control,
-        bucket: u16,
-        place: u32,
-        out: &mut Outbox,
-    ) -> Result<(), Error>
-        requires { bucket < vec_len self.old.charges }
-        ensures { Did (Ok (forgets from control bucket place (ruling self.old))) result (ruling self.old) (ruling self.new) (sent_of out.old) (sent_of out.new) }
-    {
-        let index = usize::from(bucket);
-        if place >= self.charges[index].newest().place {
+        };
+        let Control::Forgotten { place, .. } = control else {
+            return Err(Error::Of(Fault::Malformed));
+        };
+        if place >= charge.newest().place {
             return Ok(());
         }
         out.make_room(2)?;
-        part(
-            self.parted.as_mut_slice(),
-            self.charges[index].links(),
-            place,
-            self.clock.now(),
-        );
+        part(&mut self.parted, charge.links(), place, self.clock.now());
         out.put(Sent {
             to: from,
             note: Note::Answer(control),
         });
-        let assigned = server_at(self.roster.assignment(), index);
-        self.charges[index].forgotten(bucket, assigned, place, out);
+        let assigned = server_at(self.roster.assignment(), bucket);
+        charge.forgotten(bucket, assigned, place, out);
         Ok(())
     }
 }

@@ -20,8 +20,9 @@ fn begin_all(charges: &mut [Bucket], assignment: &[u16], out: &mut Outbox)
     ensures sent { sent_of out.new ≡ sent_of out.old ++ (begun_from 0 assignment.now (map charge charges.old)).0 }
     ensures charges { map charge charges.new ≡ (begun_from 0 assignment.now (map charge charges.old)).1 }
 {
-    for b in 0..charges.len() {
-        charges[b].begun(b as u16, server_at(assignment, b), out);
+    for (b, charge) in charges.iter_mut().enumerate() {
+        let bucket = b as u16;
+        charge.begun(bucket, server_at(assignment, bucket), out);
     }
 }
 
@@ -32,9 +33,7 @@ impl Controller {
     {
         out.make_room(self.charges.len())?;
         let count = self.roster.servers().len();
-        if let Err(error) = self.roster.add(heap, server) {
-            return Err(error);
-        }
+        self.roster.add(heap, server)?;
         if self.roster.servers().len() != count {
             begin_all(self.charges.as_mut_slice(), self.roster.assignment(), out);
         }
@@ -46,9 +45,7 @@ impl Controller {
         ensures { Did (removes server (ruling self.old)) result (ruling self.old) (ruling self.new) (sent_of out.old) (sent_of out.new) }
     {
         out.make_room(self.charges.len())?;
-        if let Err(error) = self.roster.remove(heap, server) {
-            return Err(error);
-        }
+        self.roster.remove(heap, server)?;
         begin_all(self.charges.as_mut_slice(), self.roster.assignment(), out);
         Ok(())
     }

@@ -9,20 +9,16 @@ use crate::status::Waiting;
 use controller_bucket::kept::Bucket;
 use std::alloc::{AllocError, Global};
 
-// Servers are numbered from 0 to 255.
-const SERVERS: u16 = 256;
-
 fn put_off(heap: Global, charges: &[Bucket]) -> Result<Vec<Waiting>, AllocError>
     requires { length charges.now ≤ 65536 }
     ensures { IfOk result (λ v. v.items ≡ waiting_from 0 (map charge charges.now)) }
 {
     let mut waiting = Vec::new(heap);
-    for b in 0..charges.len() {
-        let bucket = &charges[b];
-        if bucket.is_put_off() {
+    for (b, charge) in charges.iter().enumerate() {
+        if charge.is_put_off() {
             waiting.push(Waiting {
                 bucket: b as u16,
-                oldest: bucket.oldest(),
+                oldest: charge.oldest(),
             })?;
         }
     }
@@ -49,8 +45,7 @@ impl Controller {
         ensures { IfOk result (λ v. v.items ≡ leaving (ruling self.now)) }
     {
         let mut servers = Vec::new(heap);
-        for number in 0..SERVERS {
-            let server = number as u8;
+        for server in u8::MIN..=u8::MAX {
             if self.may_go(server) {
                 servers.push(server)?;
             }

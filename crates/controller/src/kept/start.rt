@@ -13,15 +13,13 @@ use roster::roster::Roster;
 use sessions::clock::Clock;
 use std::alloc::{AllocError, Global};
 
-// Servers are numbered from 0 to 255.
-const SERVERS: usize = 256;
-
-// The server of a bucket, by its number.
-pub(crate) fn server_at(assignment: &[u16], bucket: usize) -> u8
+// The server of a bucket, by its number. An assignment is lent as it is kept, as 16-bit numbers: that each is a server's
+// stands in a clause, and once in the controller's own fields.
+pub(crate) fn server_at(assignment: &[u16], bucket: u16) -> u8
     requires { (bucket < length assignment.now) × (Numbered (length assignment.now) assignment.now) }
     ensures { result ≡ slice_index assignment.now bucket }
 {
-    assignment[bucket] as u8
+    assignment[usize::from(bucket)] as u8
 }
 
 // At the start place 1 of each bucket stands at its server.
@@ -30,8 +28,8 @@ fn first_charges(heap: Global, assignment: &[u16]) -> Result<Vec<Bucket>, AllocE
     ensures { IfOk result (λ v. map charge v.items ≡ map charge_first assignment.now) }
 {
     let mut charges = Vec::new(heap);
-    for b in 0..assignment.len() {
-        charges.push(Bucket::new(heap, server_at(assignment, b)))?;
+    for &server in assignment {
+        charges.push(Bucket::new(heap, server as u8))?;
     }
     Ok(charges)
 }
@@ -48,15 +46,13 @@ impl Controller {
     {
         let roster = Roster::new(heap, buckets.count() as usize, servers)?;
         let charges = first_charges(heap, roster.assignment())?;
-        let mut parted = Vec::new(heap);
-        parted.resize(SERVERS, 0u64)?;
         Ok(Controller {
             buckets,
             roster,
             charges,
             balancers,
             clock: Clock::new(),
-            parted,
+            parted: [0; 256],
         })
     }
 }

@@ -1,7 +1,8 @@
 // What can be seen of the controller.
-ghost use Rattle.std.specs.Prelude.{◌≡◌, ◌+◌, ◌||◌, map, nat_le};
+ghost use Rattle.std.specs.Prelude.{◌≡◌, ◌+◌, ◌||◌, nat_le};
+ghost use Rattle.std.specs.List.{list_any};
 ghost use Rattle.controller_bucket.specs.Kept.{charge};
-ghost use Rattle.controller.specs.Rules.{is_among, goes_to, is_in_chain, is_listed, day, is_parted};
+ghost use Rattle.controller.specs.Rules.{is_among, goes_to, day, is_parted};
 ghost use Rattle.controller.specs.Kept.{ruling, seen_bucket, bucket_at};
 
 use super::Controller;
@@ -15,12 +16,7 @@ const DAY: u64 = 22_118_400;
 fn is_among(links: &[Link], server: u8) -> bool
     ensures { result ≡ is_among server links.now }
 {
-    for link in links {
-        if link.server == server {
-            return true;
-        }
-    }
-    false
+    links.iter().any(|link| link.server == server)
 }
 
 fn goes_to(handover: Handover, server: u8) -> bool
@@ -28,8 +24,7 @@ fn goes_to(handover: Handover, server: u8) -> bool
 {
     match handover {
         Handover::Idle => false,
-        Handover::AwaitStood(link) => link.server == server,
-        Handover::AwaitTold(link) => link.server == server,
+        Handover::AwaitStood(link) | Handover::AwaitTold(link) => link.server == server,
     }
 }
 
@@ -41,35 +36,16 @@ fn is_in(bucket: &Bucket, server: u8) -> bool
 }
 
 fn is_in_chain(charges: &[Bucket], server: u8) -> bool
-    ensures { result ≡ is_in_chain server (map charge charges.now) }
+    ensures { result ≡ list_any (λ b. is_among server (charge b).control.kept || goes_to server (charge b).control.handover) charges.now }
 {
-    for b in 0..charges.len() {
-        if is_in(&charges[b], server) {
-            return true;
-        }
-    }
-    false
-}
-
-fn is_listed(servers: &[u8], server: u8) -> bool
-    ensures { result ≡ is_listed server servers.now }
-{
-    for listed in servers {
-        if *listed == server {
-            return true;
-        }
-    }
-    false
+    charges.iter().any(|bucket| is_in(bucket, server))
 }
 
 // Has a day passed since then?
 fn is_day_past(then: u64, now: u64) -> bool
     ensures { result ≡ nat_le (then + day) now }
 {
-    match then.checked_add(DAY) {
-        Some(end) => end <= now,
-        None => false,
-    }
+    then.checked_add(DAY).is_some_and(|end| end <= now)
 }
 
 impl Controller {
@@ -91,18 +67,14 @@ impl Controller {
     pub fn bucket(&self, bucket: u16) -> Option<&Bucket>
         ensures { seen_bucket result ≡ bucket_at bucket (ruling self.now) }
     {
-        let index = usize::from(bucket);
-        if index >= self.charges.len() {
-            return None;
-        }
-        Some(&self.charges[index])
+        self.charges.get(usize::from(bucket))
     }
 
     // A server that is not listed, and that no chain has had for a day, may be switched off.
     pub fn is_parted(&self, server: u8) -> bool
         ensures { result ≡ is_parted server (ruling self.now) }
     {
-        !is_listed(self.roster.servers(), server)
+        !self.roster.servers().contains(&server)
             && !is_in_chain(self.charges.as_slice(), server)
             && is_day_past(self.parted[usize::from(server)], self.clock.now())
     }

@@ -12,13 +12,15 @@ use fault::{Error, Fault};
 use machine::outbox::Outbox;
 use std::alloc::AllocError;
 
+// Servers walk their buckets alike; a trait for both, with the state that each keeps as a ghost member, is longer than these loops.
+
 // What is due of all buckets is said again. Where there is no memory, a part of it.
 fn say_due(charges: &[Bucket], ticks: u32, out: &mut Outbox) -> Result<(), AllocError>
     requires { length charges.now ≤ 65536 }
     ensures { MatchResult result (λ _. sent_of out.new ≡ sent_of out.old ++ due_from 0 ticks (map charge charges.now)) (λ _. take (length (sent_of out.old)) (sent_of out.new) ≡ sent_of out.old) }
 {
-    for b in 0..charges.len() {
-        charges[b].due(b as u16, ticks, out)?;
+    for (b, charge) in charges.iter().enumerate() {
+        charge.due(b as u16, ticks, out)?;
     }
     Ok(())
 }
@@ -26,8 +28,8 @@ fn say_due(charges: &[Bucket], ticks: u32, out: &mut Outbox) -> Result<(), Alloc
 fn pass(charges: &mut [Bucket], ticks: u32)
     ensures { map charge charges.new ≡ map (passed ticks) (map charge charges.old) }
 {
-    for b in 0..charges.len() {
-        charges[b].passed(ticks);
+    for charge in charges.iter_mut() {
+        charge.passed(ticks);
     }
 }
 
@@ -40,7 +42,7 @@ impl Controller {
             return Err(Error::Of(Fault::NoSuch));
         };
         let before = out.sent().len();
-        if let Err(_) = say_due(self.charges.as_slice(), count, out) {
+        if say_due(self.charges.as_slice(), count, out).is_err() {
             out.truncate(before);
             return Err(Error::Memory);
         }

@@ -1,5 +1,6 @@
-// How what the controller keeps of one bucket changes. Room for what is sent is made before.
-ghost use Rattle.std.specs.Prelude.{◌≡◌, ◌+◌, ◌<◌, ◌≤◌, ◌++◌, length, vec_len};
+// How what the controller keeps of one bucket changes. Room for what is sent is made before: a clause says so and no type,
+// since each message uses some of it up.
+ghost use Rattle.std.specs.Prelude.{◌≡◌, ◌+◌, ◌<◌, ◌≤◌, ◌++◌, length, position, vec_len, ◌==◌};
 ghost use Rattle.machine.specs.Outboxes.{sent_of, room_of};
 ghost use Rattle.controller_bucket.specs.Rules.{charge_first, newest, oldest, put_off, begun, stood, told, without_balancer, heard, forgotten};
 ghost use Rattle.controller_bucket.specs.Kept.{charge, Goes, Answers};
@@ -159,7 +160,7 @@ impl Bucket {
     pub fn heard(&mut self, balancer: u16, link: Link)
         ensures { charge self.new ≡ heard balancer link (charge self.old) }
     {
-        if link.same(self.chain.newest()) {
+        if link == self.chain.newest() {
             strike(&mut self.untold, balancer);
         }
     }
@@ -178,14 +179,18 @@ impl Bucket {
     }
 }
 
+// Where the balancer stands among those that have not answered.
+fn position_of(untold: &[u16], balancer: u16) -> Option<usize>
+    ensures { result ≡ position (λ d. balancer == d) untold.now }
+{
+    untold.iter().position(|other| balancer == *other)
+}
+
 // The balancer has answered.
 fn strike(untold: &mut Vec<u16>, balancer: u16)
     ensures { untold.new.items ≡ without_balancer balancer untold.old.items }
 {
-    for i in 0..untold.len() {
-        if untold[i] == balancer {
-            untold.remove(i);
-            return;
-        }
+    if let Some(i) = position_of(untold.as_slice(), balancer) {
+        untold.remove(i);
     }
 }

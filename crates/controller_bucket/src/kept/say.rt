@@ -58,9 +58,9 @@ impl Bucket {
         ensures room { room_of out.old ≤ room_of out.new + length (charge self.now).untold }
     {
         let newest = self.chain.newest();
-        for balancer in self.untold.as_slice() {
+        for &balancer in &self.untold {
             out.put(Sent {
-                to: Machine::Balancer(*balancer),
+                to: Machine::Balancer(balancer),
                 note: Note::Say(Control::Door { bucket, newest }),
             });
         }

@@ -1,8 +1,9 @@
 // When a server may be switched off, and what it says of itself.
-ghost use Rattle.std.specs.Prelude.{◌≡◌, map};
+ghost use Rattle.std.specs.Prelude.{◌≡◌};
+ghost use Rattle.std.specs.List.{list_all};
 ghost use Rattle.server_bucket.specs.Kept.{holding};
 ghost use Rattle.server.specs.Kept.{keeping, sessions_of};
-ghost use Rattle.server.specs.Rules.{is_free, all_left};
+ghost use Rattle.server.specs.Rules.{is_free, is_left};
 ghost use Rattle.sessions.specs.Model.{entries_of};
 
 use super::Server;
@@ -27,6 +28,7 @@ impl Server {
     }
 
     // May it be switched off? It stands in no chain, nothing is unanswered, and a day has passed since it last stood.
+    #[tactic(auto, using(crate::proofs::Searched::left_all))]
     pub fn is_free(&self) -> bool
         ensures { result ≡ is_free (keeping self.now) }
     {
@@ -35,12 +37,7 @@ impl Server {
 }
 
 fn all_left(held: &[Bucket]) -> bool
-    ensures { result ≡ all_left (map holding held.now) }
+    ensures { result ≡ list_all (λ b. is_left (holding b)) held.now }
 {
-    for bucket in held {
-        if !bucket.is_left() {
-            return false;
-        }
-    }
-    true
+    held.iter().all(|bucket| bucket.is_left())
 }

@@ -1,11 +1,13 @@
 // What a server is ordered to do.
-ghost use Rattle.std.specs.Prelude.{◌≡◌, ◌+◌, ◌<◌, ◌≤◌, ◌++◌};
+ghost use Rattle.std.specs.Prelude.{◌≡◌, ◌+◌, ◌≤◌, ◌++◌, map, find, is_some};
 ghost use Rattle.machine.specs.Outboxes.{sent_of, room_of};
+ghost use Rattle.sessions.specs.Entries.{seen_in};
 ghost use Rattle.sessions.specs.Model.{entries_of};
 ghost use Rattle.server.specs.Kept.{keeping, sessions_of, Obeys};
-ghost use Rattle.server.specs.Rules.{closes, emptied, open_at};
+ghost use Rattle.server.specs.Rules.{closes, emptied};
 
 use super::Server;
+use super::told::is_empty;
 use chain::place::Place;
 use fault::Error;
 use flow::key::FlowKey;
@@ -21,50 +23,42 @@ impl Server {
     {
         let bucket = flow.bucket(self.buckets);
         let standing = self.held[usize::from(bucket)].standing();
-        let Some(place) = open_at(&self.sessions, bucket, flow, standing) else {
+        let Some(key) = open_at(&self.sessions, bucket, flow, standing) else {
             return Ok(());
         };
         out.make_room(2)?;
-        self.sessions.close(&Key {
-            bucket,
-            place,
-            flow,
-        });
-        self.empty(bucket, place, out);
+        self.sessions.close(&key);
+        self.empty(&key, out);
         Ok(())
     }
 
-    // The place may have become empty, and is forgotten if it may be. Room was made for two.
-    pub(super) fn empty(&mut self, bucket: u16, place: u32, out: &mut Outbox)
+    // The place of a session that is closed may have become empty, and is forgotten if it may be. Room was made for two.
+    pub(super) fn empty(&mut self, key: &Key, out: &mut Outbox)
         requires { 2 ≤ room_of out.old }
-        ensures sent { sent_of out.new ≡ sent_of out.old ++ (emptied bucket place (sessions_of self.old) (keeping self.old)).0 }
-        ensures kept { keeping self.new ≡ (emptied bucket place (sessions_of self.old) (keeping self.old)).1 }
+        ensures sent { sent_of out.new ≡ sent_of out.old ++ (emptied key.now.bucket key.now.place (sessions_of self.old) (keeping self.old)).0 }
+        ensures kept { keeping self.new ≡ (emptied key.now.bucket key.now.place (sessions_of self.old) (keeping self.old)).1 }
         ensures sessions { sessions_of self.new ≡ sessions_of self.old }
         ensures room { room_of out.old ≤ room_of out.new + 2 }
     {
-        if usize::from(bucket) >= self.held.len() {
+        let Some(held) = self.held.get_mut(usize::from(key.bucket)) else {
             return;
-        }
-        let empty = self.is_empty(bucket, place);
-        let gone = self.held[usize::from(bucket)].emptied(place, empty);
+        };
+        let gone = held.emptied(key.place, is_empty(&self.sessions, key.bucket, key.place));
         self.leave(gone);
-        tell(bucket, place, gone, out);
+        tell(key.bucket, key.place, gone, out);
     }
 }
 
-// The first of these places, the newest first, where the session is open.
-fn open_at(sessions: &Sessions, bucket: u16, flow: FlowKey, standing: &[Place]) -> Option<u32>
-    ensures { result ≡ open_at bucket flow (entries_of sessions.now) standing.now }
+// The session in the first of these places, the newest first, where it is open.
+fn open_at(sessions: &Sessions, bucket: u16, flow: FlowKey, standing: &[Place]) -> Option<Key>
+    ensures { result ≡ find (λ k. is_some (seen_in k (entries_of sessions.now))) (map (λ p. record { bucket = bucket; place = p.link.place; flow = flow }) standing.now) }
 {
-    for place in standing {
-        let key = Key {
+    standing
+        .iter()
+        .map(|place| Key {
             bucket,
             place: place.link.place,
             flow,
-        };
-        if sessions.is_open(&key) {
-            return Some(key.place);
-        }
-    }
-    None
+        })
+        .find(|key| sessions.is_open(key))
 }

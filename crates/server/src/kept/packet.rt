@@ -1,8 +1,7 @@
 // Packets at a server.
-ghost use Rattle.std.specs.Prelude.{◌≡◌, ◌<◌, if◌then◌else◌, None, vec_len};
-ghost use Rattle.places.specs.Rules.{find};
+ghost use Rattle.std.specs.Prelude.{◌≡◌, if◌then◌else◌, None};
 ghost use Rattle.server.specs.Kept.{keeping, sessions_of, Done, Fitting, Passes};
-ghost use Rattle.server.specs.Rules.{handles, place_of, entry_in, effect_of, hint_from, forwards, holding_at};
+ghost use Rattle.server.specs.Rules.{handles, entry_in, effect_of, hint_from, forwards};
 
 use super::Server;
 use crate::passed::Passed;
@@ -24,17 +23,20 @@ impl Server {
         ensures passes { Passes (handles from head flow (keeping self.old) (sessions_of self.old)) result (sessions_of self.old) (sessions_of self.new) }
         ensures same { keeping self.new ≡ keeping self.old }
     {
-        if usize::from(head.bucket) >= self.held.len() {
+        let Some(held) = self.held.get(usize::from(head.bucket)) else {
             return Ok(Passed {
                 outcome: Outcome::Refused(Refusal::For(Fault::NoSuch)),
                 hint: None,
             });
-        }
+        };
         let at = Link {
             place: head.place,
             server: self.number,
         };
-        let place = self.place(head.bucket, at);
+        let place = held.find(head.place).unwrap_or(Place {
+            link: at,
+            standing: Standing::Never,
+        });
         let key = Key {
             bucket: head.bucket,
             place: head.place,
@@ -52,20 +54,6 @@ impl Server {
             outcome,
             hint: hint(head.bucket, from, place, outcome),
         })
-    }
-
-    // The place as this server knows it.
-    fn place(&self, bucket: u16, at: Link) -> Place
-        requires { bucket < vec_len self.now.held }
-        ensures { result ≡ place_of at (find at.place (holding_at bucket (keeping self.now)).known) }
-    {
-        match self.held[usize::from(bucket)].find(at.place) {
-            Some(place) => place,
-            None => Place {
-                link: at,
-                standing: Standing::Never,
-            },
-        }
     }
 
     fn entry(&self, key: &Key) -> Entry

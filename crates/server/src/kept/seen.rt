@@ -41,9 +41,9 @@ impl Server {
     pub fn knows(&self, bucket: u16, place: u32) -> bool
         ensures { result ≡ knows bucket place (keeping self.now) }
     {
-        if usize::from(bucket) >= self.held.len() {
+        let Some(held) = self.held.get(usize::from(bucket)) else {
             return false;
-        }
-        self.held[usize::from(bucket)].find(place).is_some()
+        };
+        held.find(place).is_some()
     }
 }

@@ -11,10 +11,9 @@ impl Server {
     pub fn places(&self, bucket: u16) -> &[Place]
         ensures { result.now ≡ (holding_at bucket (keeping self.now)).known.standing }
     {
-        let at = usize::from(bucket);
-        if at >= self.held.len() {
+        let Some(held) = self.held.get(usize::from(bucket)) else {
             return &[];
-        }
-        self.held[at].standing()
+        };
+        held.standing()
     }
 }

@@ -16,8 +16,8 @@ impl Server {
         ensures { IfOk result (λ v. v.items ≡ busy_from 0 (sessions_of self.now) (keeping self.now).holdings) }
     {
         let mut busy = Vec::new(heap);
-        for i in 0..self.held.len() {
-            note_bucket(&self.sessions, i as u16, self.held[i].standing(), &mut busy)?;
+        for (i, bucket) in self.held.iter().enumerate() {
+            note_bucket(&self.sessions, i as u16, bucket.standing(), &mut busy)?;
         }
         Ok(busy)
     }

@@ -1,5 +1,5 @@
 // Ticks at a server: what is not answered is said again, and sessions without a packet for an hour are closed.
-ghost use Rattle.std.specs.Prelude.{◌≡◌, ◌*◌, ◌≤◌, ◌++◌, map, length, take, vec_len, MatchResult};
+ghost use Rattle.std.specs.Prelude.{◌≡◌, ◌*◌, ◌≤◌, ◌++◌, map, length, take, MatchResult};
 ghost use Rattle.machine.specs.Outboxes.{sent_of, room_of};
 ghost use Rattle.server_bucket.specs.Rules.{passed};
 ghost use Rattle.server_bucket.specs.Kept.{holding};
@@ -42,7 +42,7 @@ impl Server {
         ensures sessions { sessions_of self.new ≡ sessions_of self.old }
     {
         for name in names {
-            self.empty(name.bucket, name.place, out);
+            self.empty(name, out);
         }
     }
 }
@@ -52,17 +52,17 @@ fn collect(held: &[Bucket], ticks: u32, closed: usize, out: &mut Outbox) -> Resu
     requires { (length held.now ≤ 65536) × (closed ≤ 65536) }
     ensures { MatchResult result (λ _. (sent_of out.new ≡ sent_of out.old ++ due_from 0 ticks (map holding held.now)) × (2 * closed ≤ room_of out.new)) (λ _. take (length (sent_of out.old)) (sent_of out.new) ≡ sent_of out.old) }
 {
-    for i in 0..held.len() {
-        held[i].due(i as u16, ticks, out)?;
+    for (i, bucket) in held.iter().enumerate() {
+        bucket.due(i as u16, ticks, out)?;
     }
     out.make_room(2 * closed)
 }
 
-fn pass(held: &mut Vec<Bucket>, ticks: u32)
-    ensures kept { map holding held.new.items ≡ map (passed ticks) (map holding held.old.items) }
-    ensures long { vec_len held.new ≡ vec_len held.old }
+fn pass(held: &mut [Bucket], ticks: u32)
+    ensures kept { map holding held.new ≡ map (passed ticks) (map holding held.old) }
+    ensures long { length held.new ≡ length held.old }
 {
-    for i in 0..held.len() {
-        held[i].passed(ticks);
+    for bucket in held.iter_mut() {
+        bucket.passed(ticks);
     }
 }

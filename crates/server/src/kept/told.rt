@@ -1,10 +1,10 @@
 // What a server is told by other machines, and what they answer.
-ghost use Rattle.std.specs.Prelude.{◌≡◌, ◌<◌, vec_len};
-ghost use Rattle.wire.specs.declared.message.Control.TheVariants as control;
+ghost use Rattle.std.specs.Prelude.{◌≡◌};
+ghost use Rattle.sessions.specs.Model.{entries_of};
 ghost use Rattle.machine.specs.Outboxes.{sent_of};
 ghost use Rattle.machine.specs.Steps.{Did};
-ghost use Rattle.server.specs.Kept.{keeping, sessions_of, left};
-ghost use Rattle.server.specs.Rules.{told, told_of, heard, bucket_in, is_empty};
+ghost use Rattle.server.specs.Kept.{keeping, sessions_of, left, Alters};
+ghost use Rattle.server.specs.Rules.{told, heard, is_empty};
 
 use super::Server;
 use chain::way::Link;
@@ -13,6 +13,7 @@ use machine::name::Machine;
 use machine::outbox::Outbox;
 use machine::sent::{Note, Sent};
 use server_bucket::say::tell;
+use sessions::store::Sessions;
 use wire::message::Control;
 
 impl Server {
@@ -21,123 +22,51 @@ impl Server {
         ensures did { Did (told from control (keeping self.old) (sessions_of self.old)) result (keeping self.old) (keeping self.new) (sent_of out.old) (sent_of out.new) }
         ensures sessions { sessions_of self.new ≡ sessions_of self.old }
     {
-        if usize::from(bucket_in(control)) >= self.held.len() {
-            return Err(Error::Of(Fault::NoSuch));
-        }
-        match control {
-            Control::Stand {
-                bucket,
-                place,
-                before,
-            } => self.told_to_stand(from, bucket, place, before, out),
-            Control::Behind {
-                bucket,
-                place,
-                after,
-            } => self.told_behind(from, bucket, place, after, out),
-            Control::Door { .. } => Err(Error::Of(Fault::Malformed)),
-            Control::Forgotten {
-                bucket,
-                place,
-                after,
-            } => self.told_forgotten(from, bucket, place, after, out),
-        }
+        out.make_room(3)?;
+        let (place, gone) = self.change(control)?;
+        self.leave(gone);
+        out.put(Sent {
+            to: from,
+            note: Note::Answer(control),
+        });
+        tell(control.bucket(), place, gone, out);
+        Ok(())
     }
 
-    fn told_to_stand(
-        &mut self,
-        from: Machine,
-        bucket: u16,
-        place: u32,
-        before: Option<Link>,
-        out: &mut Outbox,
-    ) -> Result<(), Error>
-        requires { bucket < vec_len self.old.held }
-        ensures did { Did (told_of from (control.Stand bucket place before) (control.Stand bucket place before) (keeping self.old) (sessions_of self.old)) result (keeping self.old) (keeping self.new) (sent_of out.old) (sent_of out.new) }
+    // What a message changes: the place that may be forgotten by it, and if it is, the place after it.
+    fn change(&mut self, control: Control) -> Result<(u32, Option<Link>), Fault>
+        ensures alters { Alters control (sessions_of self.old) result (keeping self.old) (keeping self.new) }
         ensures sessions { sessions_of self.new ≡ sessions_of self.old }
     {
-        out.make_room(1)?;
-        let link = Link {
-            place,
-            server: self.number,
+        let bucket = control.bucket();
+        let Some(held) = self.held.get_mut(usize::from(bucket)) else {
+            return Err(Fault::NoSuch);
         };
-        self.held[usize::from(bucket)].stand(link, before)?;
-        out.put(Sent {
-            to: from,
-            note: Note::Answer(Control::Stand {
-                bucket,
-                place,
-                before,
-            }),
-        });
-        Ok(())
-    }
-
-    fn told_behind(
-        &mut self,
-        from: Machine,
-        bucket: u16,
-        place: u32,
-        after: Link,
-        out: &mut Outbox,
-    ) -> Result<(), Error>
-        requires { bucket < vec_len self.old.held }
-        ensures did { Did (told_of from (control.Behind bucket place after) (control.Behind bucket place after) (keeping self.old) (sessions_of self.old)) result (keeping self.old) (keeping self.new) (sent_of out.old) (sent_of out.new) }
-        ensures sessions { sessions_of self.new ≡ sessions_of self.old }
-    {
-        out.make_room(3)?;
-        let empty = self.is_empty(bucket, place);
-        let gone = self.held[usize::from(bucket)].behind(place, after, empty)?;
-        self.leave(gone);
-        out.put(Sent {
-            to: from,
-            note: Note::Answer(Control::Behind {
-                bucket,
-                place,
-                after,
-            }),
-        });
-        tell(bucket, place, gone, out);
-        Ok(())
-    }
-
-    // The place after one that is forgotten is told; it must be this server's.
-    fn told_forgotten(
-        &mut self,
-        from: Machine,
-        bucket: u16,
-        place: u32,
-        after: Link,
-        out: &mut Outbox,
-    ) -> Result<(), Error>
-        requires { bucket < vec_len self.old.held }
-        ensures did { Did (told_of from (control.Forgotten bucket place after) (control.Forgotten bucket place after) (keeping self.old) (sessions_of self.old)) result (keeping self.old) (keeping self.new) (sent_of out.old) (sent_of out.new) }
-        ensures sessions { sessions_of self.new ≡ sessions_of self.old }
-    {
-        if after.server != self.number {
-            return Err(Error::Of(Fault::UnknownPlace));
+        match control {
+            Control::Stand { place, before, .. } => {
+                let link = Link {
+                    place,
+                    server: self.number,
+                };
+                held.stand(link, before)?;
+                Ok((place, None))
+            }
+            Control::Behind { place, after, .. } => {
+                let empty = is_empty(&self.sessions, bucket, place);
+                let gone = held.behind(place, after, empty)?;
+                Ok((place, gone))
+            }
+            Control::Door { .. } => Err(Fault::Malformed),
+            // The place after one that is forgotten is told; it must be this server's.
+            Control::Forgotten { after, .. } if after.server != self.number => {
+                Err(Fault::UnknownPlace)
+            }
+            Control::Forgotten { place, after, .. } => {
+                let empty = is_empty(&self.sessions, bucket, after.place);
+                let gone = held.freed(after.place, place, empty)?;
+                Ok((after.place, gone))
+            }
         }
-        out.make_room(3)?;
-        let empty = self.is_empty(bucket, after.place);
-        let gone = self.held[usize::from(bucket)].freed(after.place, place, empty)?;
-        self.leave(gone);
-        out.put(Sent {
-            to: from,
-            note: Note::Answer(Control::Forgotten {
-                bucket,
-                place,
-                after,
-            }),
-        });
-        tell(bucket, after.place, gone, out);
-        Ok(())
-    }
-
-    // No session is open in the place.
-    pub(super) fn is_empty(&self, bucket: u16, place: u32) -> bool
-        ensures { result ≡ is_empty bucket place (sessions_of self.now) }
-    {
-        self.sessions.count_at(bucket, place) == 0
     }
 
     // A place may have been forgotten: then this is when.
@@ -156,27 +85,23 @@ impl Server {
         ensures kept { keeping self.new ≡ heard from control (keeping self.old) }
         ensures sessions { sessions_of self.new ≡ sessions_of self.old }
     {
-        if usize::from(bucket_in(control)) >= self.held.len() {
-            return;
-        }
-        if let Control::Forgotten {
+        let Control::Forgotten {
             bucket,
             place,
             after,
         } = control
-        {
-            self.held[usize::from(bucket)].answered(place, after, from);
+        else {
+            return;
+        };
+        if let Some(held) = self.held.get_mut(usize::from(bucket)) {
+            held.answered(place, after, from);
         }
     }
 }
 
-fn bucket_in(control: Control) -> u16
-    ensures { result ≡ bucket_in control }
+// No session is open in the place.
+pub(super) fn is_empty(sessions: &Sessions, bucket: u16, place: u32) -> bool
+    ensures { result ≡ is_empty bucket place (entries_of sessions.now) }
 {
-    match control {
-        Control::Stand { bucket, .. }
-        | Control::Behind { bucket, .. }
-        | Control::Door { bucket, .. }
-        | Control::Forgotten { bucket, .. } => bucket,
-    }
+    sessions.count_at(bucket, place) == 0
 }

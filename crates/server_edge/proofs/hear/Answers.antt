@@ -3,11 +3,11 @@ use Rattle.std.proofs.Common.{◌≡◌, ◌∷◌, length, Some, None, Ok, Err,
 use Rattle.std.proofs.lemmas.Result.{err_from_is_err_and}
 use Rattle.edge.specs.declared.sort.Role.TheVariants as role
 use Rattle.edge.specs.Posts.{mails_of}
-use Rattle.edge.specs.Sorts.{Carries, Tells, Orders, sort}
+use Rattle.edge.specs.Sorts.{Carries, Tells, sort}
 use Rattle.server.specs.Kept.{keeping, sessions_of}
 use Rattle.server.specs.Rules.{handles, told}
 use Rattle.server_edge.specs.Bytes.{does, forwarded_to, hint_of, Hears}
-use Rattle.server_edge.proofs.Steps.{moves_on, gone_on, stopped_on, told_hears, obeyed_hears}
+use Rattle.server_edge.proofs.Steps.{moves_on, gone_on, stopped_on, told_hears}
 use Rattle.server_edge.proofs.hear.Goals as goal
 
 pub returns-in_err-send_on-in-Packet : goal.returns-in_err-send_on-in-Packet
@@ -63,16 +63,3 @@ returns-in_ok-tell-in-Told c =
     let e : Tells i.control ≡ sort role.Server from (length (keeping was).holdings) bs = subst (λ n. Tells i.control ≡ sort role.Server from n bs) c.buckets.ensures i.ensures.sort in
     subst (λ s. Hears (does from bs (keeping was) (sessions_of was) s) (Ok None) (keeping was) (keeping is) (sessions_of was) (sessions_of is) out out' bs bs) e
     (told_hears (told from i.control (keeping was) (sessions_of was)) from bs bs (keeping was) (keeping is) (sessions_of was) (sessions_of is) out out' refl c.in_ok-tell-in-Told.ensures)
-
-pub returns-in_ok-obey-in-Order : goal.returns-in_ok-obey-in-Order
-returns-in_ok-obey-in-Order c =
-    let from = c.args.from in
-    let bs = c.args.bytes.now in
-    let was = c.args.server.now in
-    let is = c.obey.new.server in
-    let out = mails_of c.args.out.now in
-    let out' = mails_of c.obey.new.out in
-    let i = c.in-Order in
-    let e : Orders i.order ≡ sort role.Server from (length (keeping was).holdings) bs = subst (λ n. Orders i.order ≡ sort role.Server from n bs) c.buckets.ensures i.ensures.sort in
-    subst (λ s. Hears (does from bs (keeping was) (sessions_of was) s) (Ok None) (keeping was) (keeping is) (sessions_of was) (sessions_of is) out out' bs bs) e
-    (obeyed_hears i.order from bs (keeping was) (keeping is) (sessions_of was) (sessions_of is) out out' c.in_ok-obey-in-Order.ensures)

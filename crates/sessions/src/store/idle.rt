@@ -1,14 +1,10 @@
 // Sessions that had no packet for an hour.
-ghost use Rattle.std.specs.Prelude.{◌≡◌, ◌++◌, map, length, IfOk, vec_items, fold, OnOk};
-ghost use Rattle.sessions.specs.Kept.{Grouped, Bounded};
+ghost use Rattle.std.specs.Prelude.{◌≡◌, IfOk, fold};
 ghost use Rattle.sessions.specs.Entries.{is_idle, idle_keys, staying, without};
 ghost use Rattle.sessions.specs.Model.{entries_of, Lapsing};
-ghost use Rattle.sessions.specs.Slots.{flat};
 
-use super::super::entry::Entry;
 use super::super::key::Key;
-use super::bounds::{GROUP, GROUPS};
-use super::{Sessions, bounds};
+use super::Sessions;
 use fault::Error;
 use std::alloc::{AllocError, Global};
 
@@ -22,64 +18,16 @@ pub fn is_idle(seen: u64, tick: u64) -> bool
     tick.saturating_sub(seen) >= HOUR
 }
 
-// Puts the idle sessions of one slot at the end of `names`.
-fn scan_slot(entries: &[Entry], tick: u64, names: &mut Vec<Key>) -> Result<(), AllocError>
-    ensures { OnOk result (names.new.items ≡ names.old.items ++ idle_keys tick entries.now) }
-{
-    for e in entries {
-        if is_idle(e.seen, tick) {
-            names.push(e.key)?;
-        }
-    }
-    Ok(())
-}
-
-// The same for some slots.
-fn scan(slots: &[Vec<Entry>], tick: u64, names: &mut Vec<Key>) -> Result<(), AllocError>
-    ensures { OnOk result (names.new.items ≡ names.old.items ++ idle_keys tick (flat (map vec_items slots.now))) }
-{
-    for slot in slots {
-        scan_slot(slot.as_slice(), tick, names)?;
-    }
-    Ok(())
-}
-
-// The same for all slots: a group is looked through only if its bound is an hour old.
-fn scan_groups(
-    slots: &[Vec<Entry>],
-    bounds: &[u64],
-    tick: u64,
-    names: &mut Vec<Key>,
-) -> Result<(), AllocError>
-    requires { (length slots.now ≡ 65536) × Grouped bounds.now × Bounded (map vec_items slots.now) bounds.now }
-    ensures { OnOk result (names.new.items ≡ names.old.items ++ idle_keys tick (flat (map vec_items slots.now))) }
-{
-    for group in 0..GROUPS {
-        if is_idle(bounds[group], tick) {
-            let first = group * GROUP;
-            scan(&slots[first..first + GROUP], tick, names)?;
-        }
-    }
-    Ok(())
-}
-
 impl Sessions {
     // All sessions that had no packet for an hour at the tick, in the order of their slots, and in one slot of their opening.
     // Slots are looked through only where a session may be idle.
     pub fn idle_keys(&self, heap: Global, tick: u64) -> Result<Vec<Key>, AllocError>
         ensures { IfOk result (λ names. names.items ≡ idle_keys tick (entries_of self.now)) }
     {
-        let mut names = Vec::new(heap);
         if !is_idle(self.oldest, tick) {
-            return Ok(names);
+            return Ok(Vec::new(heap));
         }
-        scan_groups(
-            self.slots.as_slice(),
-            self.bounds.as_slice(),
-            tick,
-            &mut names,
-        )?;
-        Ok(names)
+        self.bounds.idle_keys(&self.slots, tick, heap)
     }
 
     // Closes them, once they are known.
@@ -91,7 +39,7 @@ impl Sessions {
             return;
         }
         self.close_all(names);
-        self.oldest = bounds::refresh(&mut self.bounds, self.slots.as_slice(), tick);
+        self.oldest = self.bounds.refresh(&self.slots, tick);
     }
 
     // Closes all sessions that had no packet for an hour at the tick, and names them. Nothing changes where there is no memory.

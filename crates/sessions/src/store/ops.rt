@@ -6,7 +6,8 @@ ghost use Rattle.sessions.specs.Model.{entries_of, at, count_at, total, touched,
 use super::super::entry::Entry;
 use super::super::key::Key;
 use super::super::{entry, tally};
-use super::{Sessions, bounds};
+use super::Sessions;
+use super::bounds::Bounds;
 use fault::{Error, Fault};
 use std::alloc::{AllocError, Global};
 
@@ -20,7 +21,8 @@ impl Sessions {
     {
         let mut slots = Vec::with_capacity(heap, SLOTS)?;
         let mut tallies = Vec::with_capacity(heap, SLOTS)?;
-        let bounds = bounds::first(heap)?;
+        let bounds = Bounds::new(heap)?;
+        // No index: each slot and each bucket gets a list of its own, which `resize` would have to copy.
         for _i in 0..SLOTS {
             slots.push(Vec::new(heap))?;
             tallies.push(Vec::new(heap))?;
@@ -70,7 +72,7 @@ impl Sessions {
         let slot = key.slot();
         let found = entry::note(&mut self.slots[slot], key, tick);
         self.oldest = self.oldest.min(tick);
-        bounds::cover(&mut self.bounds, slot, tick);
+        self.bounds.cover(slot, tick);
         found
     }
 
@@ -112,7 +114,7 @@ impl Sessions {
             Ok(()) => {
                 self.len += 1;
                 self.oldest = self.oldest.min(tick);
-                bounds::cover(&mut self.bounds, slot, tick);
+                self.bounds.cover(slot, tick);
                 Ok(())
             }
             Err(_) => {
@@ -124,8 +126,6 @@ impl Sessions {
 }
 
 // What holds of every store.
-pub fn sound() -> u8
+pub fn sound()
     ensures { (s : SessionsT) → Sound s }
-{
-    0
-}
+{}

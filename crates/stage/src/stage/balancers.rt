@@ -7,21 +7,21 @@ use std::alloc::AllocError;
 impl Stage {
     pub(super) fn at_balancer(&mut self, balancer: u8, message: Message) -> Result<(), AllocError> {
         let Body::Door { link } = message.body else {
-            return self.see(Event::Ignored);
+            return self.traffic.see(Event::Ignored);
         };
-        let Some(known) = self.known.get_mut(balancer as usize) else {
-            return self.see(Event::Ignored);
+        let Some(here) = self.balancers.get_mut(usize::from(balancer)) else {
+            return self.traffic.see(Event::Ignored);
         };
-        match known.heard(link) {
+        match here.known.heard(link) {
             Ok(highest) => {
-                *known = highest;
-                self.send(
+                here.known = highest;
+                self.traffic.send(
                     Machine::Balancer(balancer),
                     message.from,
                     Body::Heard { link },
                 )
             }
-            Err(fault) => self.see(Event::Contradicted(fault)),
+            Err(fault) => self.traffic.see(Event::Contradicted(fault)),
         }
     }
 }

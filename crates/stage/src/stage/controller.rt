@@ -29,7 +29,7 @@ impl Stage {
 
     fn tell_to_stand(&mut self, place: Link) -> Result<(), AllocError> {
         let before = self.chain.newest();
-        self.send(
+        self.traffic.send(
             Machine::Controller,
             Machine::Server(place.server),
             Body::Stand { place, before },
@@ -38,7 +38,7 @@ impl Stage {
 
     fn tell_newest(&mut self, after: Link) -> Result<(), AllocError> {
         let newest = self.chain.newest();
-        self.send(
+        self.traffic.send(
             Machine::Controller,
             Machine::Server(newest.server),
             Body::Behind {
@@ -51,21 +51,19 @@ impl Stage {
     // A newer message to a balancer takes the place of one that it has not answered.
     fn tell_balancers(&mut self) -> Result<(), AllocError> {
         let newest = self.chain.newest();
-        self.see(Event::HandedOver { newest })?;
-        for telling in self.telling.iter_mut() {
-            *telling = Some(newest);
+        self.traffic.see(Event::HandedOver { newest })?;
+        for balancer in self.balancers.iter_mut() {
+            balancer.telling = Some(newest);
         }
         self.say_to_balancers()
     }
 
     fn say_to_balancers(&mut self) -> Result<(), AllocError> {
-        for i in 0..self.telling.len() {
-            if let Some(Some(link)) = self.telling.get(i).copied()
-                && let Ok(balancer) = u8::try_from(i)
-            {
-                self.send(
+        for (number, balancer) in (0..=255u8).zip(self.balancers.as_slice()) {
+            if let Some(link) = balancer.telling {
+                self.traffic.send(
                     Machine::Controller,
-                    Machine::Balancer(balancer),
+                    Machine::Balancer(number),
                     Body::Door { link },
                 )?;
             }
@@ -77,41 +75,40 @@ impl Stage {
         match message.body {
             Body::Stood { place, .. } => match self.chain.stood(place.place) {
                 Some(after) => self.tell_newest(after),
-                None => self.see(Event::Ignored),
+                None => self.traffic.see(Event::Ignored),
             },
             Body::Told { place, after } => {
                 if self.chain.told(place.place, after) {
                     self.tell_balancers()
                 } else {
-                    self.see(Event::Ignored)
+                    self.traffic.see(Event::Ignored)
                 }
             }
             Body::Heard { link } => self.balancer_heard(message.from, link),
             Body::Forgotten { place, after } => {
                 if self.chain.forgotten(place.place) {
-                    self.send(
+                    self.traffic.send(
                         Machine::Controller,
                         message.from,
                         Body::Noted { place, after },
                     )
                 } else {
-                    self.see(Event::Ignored)
+                    self.traffic.see(Event::Ignored)
                 }
             }
-            _ => self.see(Event::Ignored),
+            _ => self.traffic.see(Event::Ignored),
         }
     }
 
     fn balancer_heard(&mut self, from: Machine, link: Link) -> Result<(), AllocError> {
-        if let Machine::Balancer(balancer) = from
-            && let Some(telling) = self.telling.get_mut(balancer as usize)
-            && let Some(told) = *telling
-            && told.same(link)
+        if let Machine::Balancer(number) = from
+            && let Some(balancer) = self.balancers.get_mut(usize::from(number))
+            && balancer.telling == Some(link)
         {
-            *telling = None;
+            balancer.telling = None;
             return Ok(());
         }
-        self.see(Event::Ignored)
+        self.traffic.see(Event::Ignored)
     }
 
     // What the controller has no answer to.

@@ -1,5 +1,5 @@
 // A message at a server: packets at its places, and what it is told of them.
-use super::{Notice, Stage};
+use super::{Notice, Stage, Traffic};
 use crate::event::Event;
 use crate::message::{Body, Machine, Message};
 use chain::place::{Outcome, Place, Standing};
@@ -7,19 +7,30 @@ use chain::way::{Link, Packet};
 use fault::Fault;
 use std::alloc::AllocError;
 
+impl Notice {
+    // To whoever has not answered.
+    fn say(self, traffic: &mut Traffic) -> Result<(), AllocError> {
+        let Notice { place, after, .. } = self;
+        let from = Machine::Server(place.server);
+        let body = Body::Forgotten { place, after };
+        if !self.server_heard {
+            traffic.send(from, Machine::Server(after.server), body)?;
+        }
+        if !self.controller_heard {
+            traffic.send(from, Machine::Controller, body)?;
+        }
+        Ok(())
+    }
+}
+
 impl Stage {
     fn place_of(&self, link: Link) -> Option<Place> {
-        for place in self.places.as_slice() {
-            if place.link.same(link) {
-                return Some(*place);
-            }
-        }
-        None
+        self.places.iter().find(|place| place.link == link).copied()
     }
 
     fn put(&mut self, now: Place) {
         for place in self.places.iter_mut() {
-            if place.link.same(now.link) {
+            if place.link == now.link {
                 *place = now;
             }
         }
@@ -34,7 +45,7 @@ impl Stage {
                     found.told_to_stand(Some(before)),
                     Body::Stood { place, before },
                 ),
-                None => self.see(Event::Dropped),
+                None => self.traffic.see(Event::Dropped),
             },
             Body::Behind { place, after } => match self.place_of(place) {
                 Some(found) => self.answer(
@@ -42,7 +53,7 @@ impl Stage {
                     found.told_behind(after),
                     Body::Told { place, after },
                 ),
-                None => self.see(Event::Dropped),
+                None => self.traffic.see(Event::Dropped),
             },
             Body::Forgotten { place, after } => match self.place_of(after) {
                 Some(found) => self.answer(
@@ -50,13 +61,13 @@ impl Stage {
                     found.told_forgotten(place.place),
                     Body::Noted { place, after },
                 ),
-                None => self.see(Event::Dropped),
+                None => self.traffic.see(Event::Dropped),
             },
             Body::Noted { place, .. } => {
                 self.noted(message.from, place);
                 Ok(())
             }
-            _ => self.see(Event::Ignored),
+            _ => self.traffic.see(Event::Ignored),
         }
     }
 
@@ -70,16 +81,16 @@ impl Stage {
         match told {
             Ok(now) => {
                 self.put(now);
-                self.send(message.to, message.from, answer)
+                self.traffic.send(message.to, message.from, answer)
             }
-            Err(Fault::UnknownPlace) => self.see(Event::Dropped),
-            Err(fault) => self.see(Event::Contradicted(fault)),
+            Err(Fault::UnknownPlace) => self.traffic.see(Event::Dropped),
+            Err(fault) => self.traffic.see(Event::Contradicted(fault)),
         }
     }
 
     fn packet_at(&mut self, server: u8, from: Machine, packet: Packet) -> Result<(), AllocError> {
         let Some(place) = self.place_of(packet.at) else {
-            return self.see(Event::Dropped);
+            return self.traffic.see(Event::Dropped);
         };
         let at = packet.at;
         let flow = packet.flow;
@@ -87,11 +98,11 @@ impl Stage {
         match place.handle(packet, self.sessions.entry(at, flow)) {
             Outcome::Delivered => {
                 self.sessions.touch(at, flow, tick);
-                self.see(Event::Delivered { at, flow })?;
+                self.traffic.see(Event::Delivered { at, flow })?;
             }
             Outcome::Opened => {
                 self.sessions.open(at, flow, tick)?;
-                self.see(Event::Opened { at, flow })?;
+                self.traffic.see(Event::Opened { at, flow })?;
             }
             Outcome::Forwarded { to, way } => {
                 let packet = Packet {
@@ -99,14 +110,14 @@ impl Stage {
                     way,
                     ..packet
                 };
-                self.send(
+                self.traffic.send(
                     Machine::Server(server),
                     Machine::Server(to.server),
                     Body::Packet(packet),
                 )?;
             }
-            Outcome::Refused(refusal) => self.see(Event::Refused { at, flow, refusal })?,
-            Outcome::Dropped => self.see(Event::Dropped)?,
+            Outcome::Refused(refusal) => self.traffic.see(Event::Refused { at, flow, refusal })?,
+            Outcome::Dropped => self.traffic.see(Event::Dropped)?,
         }
         self.hint(server, from, place)
     }
@@ -115,7 +126,8 @@ impl Stage {
     fn hint(&mut self, server: u8, from: Machine, place: Place) -> Result<(), AllocError> {
         match (from, place.standing) {
             (Machine::Balancer(_), Standing::Forgotten { after }) => {
-                self.send(Machine::Server(server), from, Body::Door { link: after })
+                self.traffic
+                    .send(Machine::Server(server), from, Body::Door { link: after })
             }
             _ => Ok(()),
         }
@@ -131,7 +143,7 @@ impl Stage {
                 return self.forgets(now, after);
             }
         }
-        self.see(Event::NothingForgotten)
+        self.traffic.see(Event::NothingForgotten)
     }
 
     fn forgets(&mut self, now: Place, after: Link) -> Result<(), AllocError> {
@@ -144,31 +156,14 @@ impl Stage {
         };
         self.notices.push(notice)?;
         self.put(now);
-        self.see(Event::Forgotten { place })?;
-        self.say_notice(notice)
-    }
-
-    fn say_notice(&mut self, notice: Notice) -> Result<(), AllocError> {
-        let place = notice.place;
-        let after = notice.after;
-        let from = Machine::Server(place.server);
-        if !notice.server_heard {
-            self.send(
-                from,
-                Machine::Server(after.server),
-                Body::Forgotten { place, after },
-            )?;
-        }
-        if !notice.controller_heard {
-            self.send(from, Machine::Controller, Body::Forgotten { place, after })?;
-        }
-        Ok(())
+        self.traffic.see(Event::Forgotten { place })?;
+        notice.say(&mut self.traffic)
     }
 
     // Somebody answered that it heard of a forgotten place.
     fn noted(&mut self, from: Machine, place: Link) {
         for notice in self.notices.iter_mut() {
-            if notice.place.same(place) {
+            if notice.place == place {
                 match from {
                     Machine::Controller => notice.controller_heard = true,
                     Machine::Server(_) => notice.server_heard = true,
@@ -180,10 +175,8 @@ impl Stage {
 
     // What the servers have no answer to.
     pub(super) fn servers_say(&mut self) -> Result<(), AllocError> {
-        for i in 0..self.notices.len() {
-            if let Some(notice) = self.notices.get(i).copied() {
-                self.say_notice(notice)?;
-            }
+        for notice in self.notices.as_slice() {
+            notice.say(&mut self.traffic)?;
         }
         Ok(())
     }

@@ -1,15 +1,16 @@
 -- The invariants of the loops that deal, and that the inner one ends.
-use Rattle.std.proofs.Common.{◌≡◌, ℕ, ◌-◌, ◌<◌, length, get_or}
-use Rattle.assignment.proofs.Steps.{Same}
+use Rattle.std.proofs.Common.{◌≡◌, length}
+use Rattle.assignment.specs.Rule.{dealt}
+use Rattle.assignment.proofs.Steps.{of_each, Deals, Likewise}
 use Rattle.assignment.proofs.balance.deal.Given as goal
 
--- no server so far has quota left, and what is done and what is left give what they gave at the start
-abbrev pub invariant-servers : goal.invariant-servers
-invariant-servers l = Same l.servers l.b l.assignment l.quota l.initial.b l.initial.assignment l.initial.quota × ((k : ℕ) → k < l.i → get_or l.quota k 0 ≡ 0)
+-- what is done, and what is left to those who may still take, give the whole
+abbrev pub invariant-buckets : goal.invariant-buckets
+invariant-buckets l = Deals l.takers l.entry-index l.assignment l.quota (dealt l.servers l.initial.assignment (of_each l.initial.quota l.servers))
 
--- in the inner loop `entry` is where that loop began
-abbrev pub invariant-loop-b : goal.invariant-loop-b
-invariant-loop-b l = Same l.servers l.b l.assignment l.quota l.initial.b l.initial.assignment l.initial.quota × ((k : ℕ) → k < l.i → get_or l.quota k 0 ≡ 0)
+-- those who have no quota left were passed, and nothing else was done
+abbrev pub invariant-loop-takers : goal.invariant-loop-takers
+invariant-loop-takers l = (l.entry ≡ l.initial.entry) × (l.quota ≡ l.initial.quota) × Likewise l.quota l.takers l.initial.takers
 
-abbrev pub decreases-loop-b : goal.decreases-loop-b
-decreases-loop-b l = length l.initial.assignment - l.b
+abbrev pub decreases-loop-takers : goal.decreases-loop-takers
+decreases-loop-takers l = length l.takers

@@ -4,17 +4,10 @@ use Rattle.std.proofs.lemmas.Bool.{ne_eqb}
 use Rattle.std.proofs.lemmas.Bool.Decides.{nat_tests}
 use Rattle.assignment.specs.Even.{Even, Fewest}
 use Rattle.assignment.specs.Rule.{rises, rebalanced, is_buckets}
-use Rattle.assignment.proofs.Servers.{rises_length, listed_low}
+use Rattle.assignment.proofs.Servers.{listed_low}
 use Rattle.assignment.proofs.Changes.{Fit}
 use Rattle.assignment.proofs.Best.{even, fewest}
 use Rattle.assignment.proofs.balance.rebalance.Goals as goal
-
-pub slice_bounds-quota-end : goal.slice_bounds-quota-end
-slice_bounds-quota-end c =
-    let ss = c.args.servers.now in
-    let up : rises ss ≡ true = sym c.is_rising.ensures ∙ c.if-not-is_rising.false in
-    let few = rises_length 0 ss up (λ i. omega (arith, c.type_inv.servers i)) (omega arith) in
-    omega arith
 
 pub returns : goal.returns
 returns c =
@@ -24,7 +17,7 @@ returns c =
     let fit : Fit ss = record { rise = up; real = λ i. omega (arith, c.type_inv.servers i) } in
     let some : 0 < length ss = grind (arith, nat_tests) in
     let e : c.balance.new.assignment ≡ rebalanced ss xs = c.balance.ensures in
-    let good : is_buckets (length xs) ≡ true = grind (arith, nat_tests) in
+    let good : is_buckets (length xs) ≡ true = sym c.is_buckets.ensures ∙ c.if-not-is_buckets.false in
     let P : List ℕ → Type 0 = Even ss in
     let Q : List ℕ → Type 0 = Fewest ss xs in
     record {

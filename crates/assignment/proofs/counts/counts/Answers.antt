@@ -1,35 +1,33 @@
 -- One bucket more is counted.
-use Rattle.std.proofs.Common.{◌≡◌, ◌+◌, get_or, drop, refl, ap, ◌∙◌, arith}
-use Rattle.std.proofs.lemmas.List.{get_or-replicate, length-set, at_drop_all}
+use Rattle.std.proofs.Common.{◌≡◌, ◌+◌, get_or, sym, refl, ap, ◌∙◌, arith}
+use Rattle.std.proofs.lemmas.List.{get_or-replicate, length-set}
 use Rattle.assignment.specs.Even.{count}
-use Rattle.assignment.proofs.Servers.{counted, passed_over, count_le, count_drop_le}
+use Rattle.assignment.proofs.Servers.{server_is, server_not, counted, passed_over, count_le, count_drop_le}
 use Rattle.assignment.proofs.counts.counts.Goals as goal
-use Rattle.assignment.proofs.counts.counts.Goals.{then-server-lt-SERVERS, else-server-lt-SERVERS}
+use Rattle.assignment.proofs.counts.counts.Goals.{in-Some, in_default}
 
-pub loop-b-init : goal.loop-b-init
-loop-b-init c = (refl, λ s h. ap (λ n. n + count s c.args.assignment.now) (get_or-replicate 256 s 0 0 h) ∙ omega arith)
+pub loop-entry-init : goal.loop-entry-init
+loop-entry-init c = (refl, λ s h. ap (λ n. n + count s c.args.assignment.now) (get_or-replicate 256 s 0 0 h) ∙ omega arith)
 
 pub overflow_add-counts : goal.overflow_add-counts
 overflow_add-counts c =
     let xs = c.args.assignment.now in
-    let x = get_or xs c.loop-b.b 0 in
-    omega (arith, c.loop-b.invariant.1 x (omega arith), count_le x xs, count_drop_le x xs c.loop-b.b (omega arith) refl)
+    let x = get_or xs c.loop-entry.entry-index 0 in
+    let e = server_is x c.in-Some.server (sym c.server_of.ensures ∙ c.in-Some.is) in
+    omega (arith, e.0, c.from.ensures, c.loop-entry.invariant.1 x e.1, count_le x xs, count_drop_le x xs c.loop-entry.entry-index (omega arith) refl, ap (λ k. get_or c.loop-entry.counts k 0) (c.from.ensures ∙ e.0))
 
-pub loop-b-preserved : goal.loop-b-preserved
-loop-b-preserved c =
+pub loop-entry-preserved : goal.loop-entry-preserved
+loop-entry-preserved c =
     let xs = c.args.assignment.now in
-    let b = c.loop-b.b in
-    let cs = c.loop-b.counts in
+    let b = c.loop-entry.entry-index in
     let x = get_or xs b 0 in
-    elim c.if-server-lt-SERVERS.branch [
-      | then-server-lt-SERVERS w ↦ rw w.counts-is (length-set cs x (get_or cs x 0 + 1) ∙ c.loop-b.invariant.0, λ s h. counted s x xs cs b (omega arith) refl (omega arith) (c.loop-b.invariant.1 s h))
-      | else-server-lt-SERVERS w ↦ rw w.counts-is (c.loop-b.invariant.0, λ s h. ap (λ n. get_or cs s 0 + n) (passed_over s xs b (omega arith) (omega (arith, w.if-server-lt-SERVERS.false))) ∙ c.loop-b.invariant.1 s h)
+    let cs = c.loop-entry.counts in
+    elim c.match-server_of.branch [
+      | in-Some w ↦
+          let e = server_is x w.in-Some.server (sym c.server_of.ensures ∙ w.in-Some.is) in
+          let at : w.from.result ≡ x = w.from.ensures ∙ e.0 in
+          rw (w.counts-is, at) (length-set cs x (get_or cs x 0 + 1) ∙ c.loop-entry.invariant.0, λ s h. counted s x xs cs b (omega arith) refl (omega (arith, e.1)) (c.loop-entry.invariant.1 s h))
+      | in_default w ↦
+          let n = server_not x (sym c.server_of.ensures ∙ w.in_default.is) in
+          rw w.counts-is (c.loop-entry.invariant.0, λ s h. ap (λ n. get_or cs s 0 + n) (passed_over s xs b (omega arith) (omega arith)) ∙ c.loop-entry.invariant.1 s h)
     ]
-
-pub returns : goal.returns
-returns c =
-    let xs = c.args.assignment.now in
-    record {
-      long = c.loop-b.invariant.0;
-      each = λ s h. let e : count s (drop c.loop-b.b xs) ≡ 0 = at_drop_all (count s) xs c.loop-b.b (omega arith) in omega (arith, c.loop-b.invariant.1 s h);
-    }

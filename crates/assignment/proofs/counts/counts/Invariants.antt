@@ -4,5 +4,5 @@ use Rattle.assignment.specs.Even.{count}
 use Rattle.assignment.proofs.counts.counts.Given as goal
 
 -- what is counted, and what is left, give the whole
-abbrev pub invariant-loop-b : goal.invariant-loop-b
-invariant-loop-b l = (length l.counts ≡ 256) × ((s : ℕ) → s < 256 → get_or l.counts s 0 + count s (drop l.b l.assignment) ≡ count s l.assignment)
+abbrev pub invariant-loop-entry : goal.invariant-loop-entry
+invariant-loop-entry l = (length l.counts ≡ 256) × ((s : ℕ) → s < 256 → get_or l.counts s 0 + count s (drop l.entry-index l.assignment) ≡ count s l.assignment)

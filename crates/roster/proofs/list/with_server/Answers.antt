@@ -1,8 +1,10 @@
 -- Those below, the server, those above.
-use Rattle.roster.proofs.Walk.{with_is}
+use Rattle.std.proofs.Common.{sym, arith}
+use Rattle.roster.proofs.Walk.{below_is, above_is}
 use Rattle.roster.proofs.list.with_server.Goals as goal
 
 pub returns : goal.returns
 returns c =
-    with_is c.args.servers.now c.args.server _ _ _ _ _ c.from-number.ensures c.new-list.ensures.items c.in_ok-extend_within.ensures c.in_ok-push.ensures.items
-    c.in_ok-extend_within-2.ensures
+    let ss = c.args.servers.now in
+    let s = c.args.server in
+    rw (sym (below_is s ss), sym (above_is s ss (λ i. omega (arith, c.type_inv.servers i)))) c.around.ensures

@@ -1,15 +1,15 @@
 -- The array turned by one, with the new place in front.
-use Rattle.std.proofs.Common.{◌≡◌, length, set, sym, refl, ◌∙◌, arith, length-set}
+use Rattle.std.proofs.Common.{◌≡◌, length, set, sym, refl, ◌∙◌, arith, rules, length-set}
 use Rattle.chain.specs.Controllers.{newest_of}
 use Rattle.chain.proofs.Front.{told_elsewhere, told_another, told_done, told_falls, turned_front, awaits_room}
-use Rattle.chain.proofs.kept.Chain.told.Goals.{then-place-self-via-then-place-self, then-place-self-via-else-place-self+then-not-same}
+use Rattle.chain.proofs.kept.Chain.told.Goals.{then-place-self-via-then-place-self, then-place-self-via-else-place-self+then-ne}
 use Rattle.chain.proofs.kept.Chain.told.Goals as goal
 
 pub returns-then-place-self : goal.returns-then-place-self
 returns-then-place-self c =
     elim c.then-place-self.branch [
       | then-place-self-via-then-place-self w ↦ rw c.in-AwaitTold.is (told_elsewhere c.args.place c.args.self.now.len c.args.after c.in-AwaitTold.link c.args.self.now.links (omega arith) w.if-place-self.true)
-      | then-place-self-via-else-place-self+then-not-same w ↦ rw c.in-AwaitTold.is (told_another c.args.place c.args.self.now.len c.args.after c.in-AwaitTold.link c.args.self.now.links (sym w.same.ensures ∙ w.if-not-same.true))
+      | then-place-self-via-else-place-self+then-ne w ↦ rw c.in-AwaitTold.is (told_another c.args.place c.args.self.now.len c.args.after c.in-AwaitTold.link c.args.self.now.links (search rules))
     ]
 
 pub invariant_of-self : goal.invariant_of-self
@@ -26,4 +26,4 @@ returns c =
     let room = awaits_room c.args.self.now.len (newest_of c.args.self.now.links).place c.args.self.now.handover c.in-AwaitTold.link c.in-AwaitTold.is c.args.self.now.awaited in
     let e = turned_front c.in-AwaitTold.link c.args.self.now.links c.args.self.now.len c.args.self.now.eight room.0 in
     rw (c.in-AwaitTold.is, c.rotate_right.ensures.after, e)
-    (told_done c.args.place c.args.self.now.len c.args.after c.in-AwaitTold.link c.args.self.now.links (omega arith) c.if-place-self.false (sym c.same.ensures ∙ c.if-not-same.false))
+    (told_done c.args.place c.args.self.now.len c.args.after c.in-AwaitTold.link c.args.self.now.links (omega arith) c.if-place-self.false (search rules))

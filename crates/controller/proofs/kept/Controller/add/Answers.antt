@@ -15,4 +15,4 @@ returns-then-servers-count c =
     let same = with_items_is c.args.self.now.charges c.begin_all.new.charges (omega (arith, c.as_mut_slice.ensures.len, c.begin_all.auto.charges)) in
     let g = begun_as k (assignment_of b) _ _ _ (sent_of c.args.out.now) (sent_of c.make_room.new.self) (sent_of c.begin_all.new.out) c.assignment.ensures (ap (map charge) c.as_mut_slice.ensures.value) c.make_room.ensures.same
     (ap (map charge) same ∙ c.begin_all.ensures.charges) c.begin_all.ensures.sent in
-    added_did c.args.server k c.args.self.now.roster b c.in_default.field-0 _ (sent_of c.args.out.now) (sent_of c.begin_all.new.out) c.in_default.ensures.added c.in_default.ensures.whole (λ e. c.if-servers-count.true (ap length c.servers.ensures ∙ (e ∙ sym (ap length c.servers-count.ensures)))) refl refl g.0 g.1
+    added_did c.args.server k c.args.self.now.roster b c.in_ok-add.field-0 _ (sent_of c.args.out.now) (sent_of c.begin_all.new.out) c.in_ok-add.ensures.added c.in_ok-add.ensures.whole (λ e. c.if-servers-count.true (ap length c.servers.ensures ∙ (e ∙ sym (ap length c.servers-count.ensures)))) refl refl g.0 g.1

@@ -5,5 +5,5 @@ use Rattle.controller.specs.Kept.{ruling}
 use Rattle.controller.specs.Status.{go_of}
 use Rattle.controller.proofs.kept.Controller.leaving.Given as goal
 
-abbrev pub invariant-loop-number : goal.invariant-loop-number
-invariant-loop-number l = vec_items l.servers ≡ go_of (ruling l.self) (up_from 0 l.number)
+abbrev pub invariant-loop-server : goal.invariant-loop-server
+invariant-loop-server l = vec_items l.servers ≡ go_of (ruling l.self) (up_from 0 l.server)

@@ -1,26 +1,38 @@
--- By the message.
-use Rattle.std.proofs.Common.{vec_items, ap, arith}
+-- Forgotten: answered and obeyed.
+use Rattle.std.proofs.Common.{◌<◌, [], ◌∷◌, ◌++◌, length, vec_items, sym, refl, ap, ◌∙◌, subst, arith}
 use Rattle.std.proofs.lemmas.List.{length-map}
+use Rattle.std.proofs.lemmas.Bool.{ltb-true}
+use Rattle.wire.specs.declared.message.Control.TheVariants.{Forgotten}
+use Rattle.wire.specs.Controls.{bucket_in}
+use Rattle.machine.specs.declared.sent.Note.TheVariants.{Answer}
 use Rattle.machine.specs.Outboxes.{sent_of}
-use Rattle.controller_bucket.specs.Kept.{charge}
-use Rattle.controller.specs.Rules.{bucket_in}
+use Rattle.controller_bucket.specs.Rules.{charge_first, forgotten}
+use Rattle.controller_bucket.specs.Kept.{charge, Answers}
 use Rattle.controller.specs.Kept.{ruling}
-use Rattle.controller.proofs.Heard.{told_outside, forgotten_told, told_rest}
+use Rattle.controller.proofs.Ruled.{newest_at, assigned_is, charge_here, ruled, both}
+use Rattle.controller.proofs.Forgets.{forgets_some, parted_is}
+use Rattle.controller.proofs.Heard.{forgotten_told}
 use Rattle.controller.proofs.kept.Controller.told.Goals as goal
 
-pub returns-then-from-len : goal.returns-then-from-len
-returns-then-from-len c =
-    told_outside c.args.from c.args.control (ruling c.args.self.now) (sent_of c.args.out.now)
-    (omega (arith, length-map (vec_items c.args.self.now.charges) charge, c.args.self.now.charges.ok.0, c.bucket_in.ensures, c.from.ensures, c.len.ensures, c.if-from-len.true))
-
-pub returns-in-Forgotten : goal.returns-in-Forgotten
-returns-in-Forgotten c =
-    forgotten_told c.args.from c.args.control c.in-Forgotten.bucket c.in-Forgotten.place c.in-Forgotten.after (ruling c.args.self.now) (ruling c.forgotten.new.self) (sent_of c.args.out.now) (sent_of c.forgotten.new.out) c.forgotten.result c.in-Forgotten.is
-    (omega (arith, length-map (vec_items c.args.self.now.charges) charge, c.args.self.now.charges.ok.0, ap bucket_in c.in-Forgotten.is, c.bucket_in.ensures, c.from.ensures, c.len.ensures, c.if-from-len.false))
-    c.forgotten.ensures
-
-pub returns-in_default : goal.returns-in_default
-returns-in_default c =
-    told_rest c.args.from c.args.control (ruling c.args.self.now) (sent_of c.args.out.now)
-    (omega (arith, length-map (vec_items c.args.self.now.charges) charge, c.args.self.now.charges.ok.0, c.bucket_in.ensures, c.from.ensures, c.len.ensures, c.if-from-len.false))
-    c.in_default.not-Forgotten
+pub returns : goal.returns
+returns c =
+    let k = ruling c.args.self.now in
+    let cs = vec_items c.args.self.now.charges in
+    let b = c.in-Forgotten.bucket in
+    let place = c.in-Forgotten.place in
+    let c' = Forgotten b place c.in-Forgotten.after in
+    let said = c.bucket-bucket.ensures ∙ ap bucket_in c.in-Forgotten.is in
+    let is = c.from.ensures ∙ said in
+    let at = c.in-Some.ensures.item in
+    let here : b < length cs = rw is at (ltb-true c.from.result (length cs) (sym at.0)) in
+    let l = newest_at cs c.from.result b c.in-Some.charge.now (charge_first 0) c.newest.result is here at.1 c.newest.ensures in
+    let s = assigned_is b k c.server_at-assigned.result c.bucket-bucket.result _ c.server_at-assigned.ensures c.assignment.ensures said in
+    let ch = charge_here cs c.from.result b c.in-Some.charge.now (charge_first 0) is here at.1 in
+    let w = c.put.ensures.items ∙ ap (λ o. o ++ record { to = c.args.from; note = Answer c' } ∷ []) c.make_room.ensures.same in
+    let f = forgets_some c.args.from c' b place k c.server_at-assigned.result (charge c.in-Some.charge.now) (charge c.forgotten.new.self) c.newest.result c.forgotten.result
+    (sent_of c.args.out.now) (sent_of c.put.new.self) (sent_of c.forgotten.new.out) s ch l c.if-place-newest.false
+    (subst (λ n. Answers (forgotten n c.server_at-assigned.result place (charge c.in-Some.charge.now)) c.forgotten.result (charge c.in-Some.charge.now) (charge c.forgotten.new.self) (sent_of c.put.new.self) (sent_of c.forgotten.new.out)) said c.forgotten.ensures) w in
+    let p = parted_is b place k c.now.result c.links.result.now c.args.self.now.parted _ (charge c.in-Some.charge.now) c.now.ensures c.links.ensures ch refl c.part.ensures in
+    let r = ruled cs c.from.result b c.in-Some.charge.now c.forgotten.new.self (charge_first 0) (λ _. charge c.forgotten.new.self) is here at.1 refl in
+    forgotten_told c.args.from c.args.control b place c.in-Forgotten.after k _ (sent_of c.args.out.now) (sent_of c.forgotten.new.out) _ c.in-Forgotten.is
+    (omega (arith, length-map cs charge, here)) (both k _ _ _ _ r p ∙ f.0, f.1)

@@ -4,7 +4,7 @@ use Rattle.controller_bucket.specs.Rules as bucket
 use Rattle.controller_bucket.specs.Kept.{charge}
 use Rattle.controller.proofs.kept.tick.pass.Given as goal
 
-abbrev pub invariant-loop-b : goal.invariant-loop-b
-invariant-loop-b l =
-    (map charge (take l.b l.charges) ++ map (bucket.passed l.ticks) (map charge (drop l.b l.charges)) ≡ map (bucket.passed l.ticks) (map charge l.initial.charges))
+abbrev pub invariant-loop-charge : goal.invariant-loop-charge
+invariant-loop-charge l =
+    (map charge (take l.charge-index l.charges) ++ map (bucket.passed l.ticks) (map charge (drop l.charge-index l.charges)) ≡ map (bucket.passed l.ticks) (map charge l.initial.charges))
     × (length l.charges ≡ length l.initial.charges)

@@ -19,6 +19,6 @@ returns c =
     let s : c.ones_sum-sum.result ≡ ones_sum (f.src / 65536 + f.src % 65536 + f.sport + protocol_number f.protocol) =
     c.ones_sum-sum.ensures.value ∙ ap ones_sum (omega arith) in
     record {
-      value = ap (λ x. x % n) (c.from-2.ensures ∙ (c.reverse_bits.ensures.value ∙ ap reversed s));
-      below = mod_below c.from-2.result n (omega (arith, counted n c.args.buckets.ok));
+      value = ap (λ x. x % n) (c.from-3.ensures ∙ (c.reverse_bits.ensures.value ∙ ap reversed s));
+      below = mod_below c.from-3.result n (omega (arith, counted n c.args.buckets.ok));
     }

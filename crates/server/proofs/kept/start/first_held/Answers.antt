@@ -1,7 +1,5 @@
 -- One bucket more.
-use Rattle.std.proofs.Common.{vec_items, ap, ◌∙◌, arith}
-use Rattle.std.proofs.lemmas.List.{take_all}
-use Rattle.server.specs.Rules.{first_holdings}
+use Rattle.std.proofs.Common.{vec_items, arith}
 use Rattle.server.proofs.Started.{first_none, first_more}
 use Rattle.server.proofs.kept.start.first_held.Goals as goal
 
@@ -12,6 +10,3 @@ pub loop-server-preserved : goal.loop-server-preserved
 loop-server-preserved c =
     first_more c.args.number c.loop-server.server-index c.args.assignment.now (vec_items c.loop-server.held) (vec_items c.push.new.self) c.first.result (omega arith)
     c.in_ok-push.ensures.items c.first.ensures c.loop-server.invariant
-
-pub returns : goal.returns
-returns c = c.loop-server.invariant ∙ ap (first_holdings c.args.number) (take_all c.loop-server.server-index c.args.assignment.now (omega arith))

@@ -1,12 +1,9 @@
 -- One bucket more.
 use Rattle.std.proofs.Common.{◌++◌, length, take, sym, refl, ap, ◌∙◌, arith}
-use Rattle.std.proofs.lemmas.List.{take_all, append-nil}
+use Rattle.std.proofs.lemmas.List.{append-nil}
 use Rattle.machine.specs.Outboxes.{sent_of}
 use Rattle.server.proofs.Ticked.{due_more, due_all, in_front, both_made}
 use Rattle.server.proofs.kept.ticks.collect.Goals as goal
-
-pub loop-i-init : goal.loop-i-init
-loop-i-init c = (refl, take_all (length (sent_of c.args.out.now)) (sent_of c.args.out.now) (omega arith))
 
 pub loop-i-preserved : goal.loop-i-preserved
 loop-i-preserved c =

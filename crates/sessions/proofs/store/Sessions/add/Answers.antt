@@ -30,14 +30,14 @@ pub index_mut-requires-2 : goal.index_mut-requires-2
 index_mut-requires-2 c = slot_within c.args.self.now c.args.key c.slot-slot.result c.slot-slot.ensures
 
 pub cover-requires : goal.cover-requires
-cover-requires c = (omega (arith, c.slot-slot.ensures, slot_below c.args.key), c.args.self.now.groups)
+cover-requires c = omega (arith, c.slot-slot.ensures, slot_below c.args.key)
 
 added : (c : goal.After-cover) → Step c.args.self.now c.args.key (Some c.args.tick) (map vec_items (set (vec_items c.args.self.now.slots) c.slot-slot.result c.push.new.self))
-    (map vec_items (set (vec_items c.args.self.now.tallies) c.bucket_index-bucket.result c.raise.new.tallies)) (c.args.self.now.len + 1) c.min-self.result (vec_items c.cover.new.bounds)
+    (map vec_items (set (vec_items c.args.self.now.tallies) c.bucket_index-bucket.result c.raise.new.tallies)) (c.args.self.now.len + 1) c.min-self.result (vec_items c.cover.new.self.ticks)
 unfolding entries_of
 added c =
     add_step c.args.self.now c.args.key c.args.tick c.min-self.result c.slot-slot.result c.bucket_index-bucket.result c.index_mut-2.result.now c.push.new.self
-    c.index_mut.result.now c.raise.new.tallies (vec_items c.cover.new.bounds) c.requires.0 c.requires.1 c.slot-slot.ensures c.index_mut-2.ensures.value c.in-Ok.ensures.items
+    c.index_mut.result.now c.raise.new.tallies (vec_items c.cover.new.self.ticks) c.requires.0 c.requires.1 c.slot-slot.ensures c.index_mut-2.ensures.value c.in-Ok.ensures.items
     c.bucket_index-bucket.ensures.value c.bucket_index-bucket.ensures.bound c.index_mut.ensures.value c.in_ok-raise.ensures c.min-self.ensures c.cover.ensures
 
 pub invariant_of-self-in-Ok : goal.invariant_of-self-in-Ok

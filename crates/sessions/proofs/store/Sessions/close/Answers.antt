@@ -13,7 +13,7 @@ index_mut-requires c = slot_within c.args.self.now c.args.key.now c.slot.result 
 
 -- it is not open
 missed : (c : goal.Then-not-remove) → Step c.args.self.now c.args.key.now None (map vec_items (set (vec_items c.args.self.now.slots) c.slot.result c.remove.new.entries))
-    (tallies_of c.args.self.now) c.args.self.now.len c.args.self.now.oldest (vec_items c.args.self.now.bounds)
+    (tallies_of c.args.self.now) c.args.self.now.len c.args.self.now.oldest (vec_items c.args.self.now.bounds.ticks)
     × (flat (map vec_items (set (vec_items c.args.self.now.slots) c.slot.result c.remove.new.entries)) ≡ without c.args.key.now (flat (slots_of c.args.self.now)))
 missed c =
     let s = c.args.self.now in
@@ -44,7 +44,7 @@ opened c =
     some_seen (seen_in c.args.key.now (flat (slots_of s))) (ap is_some (sym a) ∙ sym c.if-not-remove.ensures.found)
 
 taken : (c : goal.After-lower) → Step c.args.self.now c.args.key.now None (map vec_items (set (vec_items c.args.self.now.slots) c.slot.result c.remove.new.entries))
-    (map vec_items (set (vec_items c.args.self.now.tallies) c.bucket_index.result c.lower.new.tallies)) (c.args.self.now.len - 1) c.args.self.now.oldest (vec_items c.args.self.now.bounds)
+    (map vec_items (set (vec_items c.args.self.now.tallies) c.bucket_index.result c.lower.new.tallies)) (c.args.self.now.len - 1) c.args.self.now.oldest (vec_items c.args.self.now.bounds.ticks)
 taken c =
     close_step c.args.self.now c.args.key.now (opened c).0 c.slot.result c.bucket_index.result c.index_mut.result.now c.remove.new.entries c.index_mut-2.result.now
     c.lower.new.tallies (opened c).1 c.slot.ensures c.index_mut.ensures.value c.remove.ensures.after c.bucket_index.ensures.value c.bucket_index.ensures.bound

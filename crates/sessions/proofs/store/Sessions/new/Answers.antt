@@ -10,7 +10,7 @@ invariant_of-result c =
     let i = c.loop-i.invariant in
     let a = length-map (vec_items c.loop-i.slots) vec_items in
     let b = length-map (vec_items c.loop-i.tallies) vec_items in
-    new_holds (map vec_items (vec_items c.loop-i.slots)) (map vec_items (vec_items c.loop-i.tallies)) (vec_items c.in_ok-bounds.bounds) (omega (arith, i.0, c.loop-i.slots.ok.0)) (omega (arith, i.1, c.loop-i.tallies.ok.0)) c.in_ok-bounds.ensures i.2 i.3
+    new_holds (map vec_items (vec_items c.loop-i.slots)) (map vec_items (vec_items c.loop-i.tallies)) (vec_items c.in_ok-bounds.bounds.ticks) (omega (arith, i.0, c.loop-i.slots.ok.0)) (omega (arith, i.1, c.loop-i.tallies.ok.0)) i.2 i.3
 
 pub loop-i-preserved : goal.loop-i-preserved
 loop-i-preserved c =
@@ -19,8 +19,8 @@ loop-i-preserved c =
     let f = c.in_ok-push-2.ensures in (
       omega (arith, i.0, e.len),
       omega (arith, i.1, f.len),
-      empty_more (vec_items c.loop-i.slots) (vec_items c.push.new.self) c.new.result e.items c.new.ensures.items i.2,
-      empty_more (vec_items c.loop-i.tallies) (vec_items c.push-in-loop-i.new.self) c.new-in-loop-i.result f.items c.new-in-loop-i.ensures.items i.3,
+      empty_more (vec_items c.loop-i.slots) (vec_items c.push.new.self) c.new-in-loop-i.result e.items c.new-in-loop-i.ensures.items i.2,
+      empty_more (vec_items c.loop-i.tallies) (vec_items c.push-in-loop-i.new.self) c.new-in-loop-i-2.result f.items c.new-in-loop-i-2.ensures.items i.3,
     )
 
 pub returns : goal.returns

@@ -10,11 +10,11 @@ pub index_mut-requires : goal.index_mut-requires
 index_mut-requires c = slot_within c.args.self.now c.args.key.now c.slot-slot.result c.slot-slot.ensures
 
 pub cover-requires : goal.cover-requires
-cover-requires c = (omega (arith, c.slot-slot.ensures, slot_below c.args.key.now), c.args.self.now.groups)
+cover-requires c = omega (arith, c.slot-slot.ensures, slot_below c.args.key.now)
 
 pub invariant_of-self : goal.invariant_of-self
 invariant_of-self c =
-    (touch_step c.args.self.now c.args.key.now c.args.tick c.min-self.result c.slot-slot.result c.index_mut.result.now c.note-found.new.entries (vec_items c.cover.new.bounds) c.slot-slot.ensures
+    (touch_step c.args.self.now c.args.key.now c.args.tick c.min-self.result c.slot-slot.result c.index_mut.result.now c.note-found.new.entries (vec_items c.cover.new.self.ticks) c.slot-slot.ensures
     c.index_mut.ensures.value c.note-found.ensures.after c.min-self.ensures c.cover.ensures).hold
 
 pub returns : goal.returns
@@ -25,7 +25,7 @@ returns c =
     let found = c.note-found.ensures.found ∙ ap is_some (seen_at s.slots k c.slot-slot.result c.index_mut.result.now s.filing c.slot-slot.ensures c.index_mut.ensures.value) in
     record {
       answer = found;
-      change = (touch_step s k c.args.tick c.min-self.result c.slot-slot.result c.index_mut.result.now c.note-found.new.entries (vec_items c.cover.new.bounds) c.slot-slot.ensures c.index_mut.ensures.value
+      change = (touch_step s k c.args.tick c.min-self.result c.slot-slot.result c.index_mut.result.now c.note-found.new.entries (vec_items c.cover.new.self.ticks) c.slot-slot.ensures c.index_mut.ensures.value
           c.note-found.ensures.after c.min-self.ensures c.cover.ensures).change;
       same = λ n. touch_same s k c.args.tick c.slot-slot.result c.index_mut.result.now c.note-found.new.entries c.slot-slot.ensures c.index_mut.ensures.value
           c.note-found.ensures.after (sym found ∙ n);

@@ -1,0 +1,9 @@
+-- What is found, and what is still to be found, are all.
+use Rattle.std.proofs.Common.{◌≡◌, ◌++◌, map, drop, vec_items}
+use Rattle.sessions.specs.Entries.{idle_keys}
+use Rattle.sessions.specs.Slots.{flat}
+use Rattle.sessions.proofs.store.bounds.scan.Given as goal
+
+abbrev pub invariant-loop-slot : goal.invariant-loop-slot
+invariant-loop-slot l =
+    vec_items l.names ++ idle_keys l.tick (flat (map vec_items (drop l.slot-index l.slots))) ≡ vec_items l.initial.names ++ idle_keys l.tick (flat (map vec_items l.slots))
