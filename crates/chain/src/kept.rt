@@ -9,7 +9,8 @@ use crate::way::Link;
 
 pub mod ops;
 
-// At most eight places, the newest first, and the handover that is in progress.
+// At most eight places, the newest first, and the handover that is in progress. An array of eight with their count, which the
+// project asks for by name (docs/DECISIONS.md, forms of the code); what a server keeps has the library's `ArrayVec` there.
 #[derive(Drop)]
 pub struct Chain {
     links: [Link; 8],

@@ -72,7 +72,7 @@ fn stop(heap: Global, line: u64, error: Error) -> anyhow::Error {
     }
 }
 
-// Faults are answered, want of memory ends the program.
+// Faults are answered, want of memory ends the program. The programs that play scripts have their own, with blanks in front.
 fn answer(rt: &HostRuntime, line: u64, error: Error) -> anyhow::Result<()> {
     match error {
         Error::Of(fault) => {

@@ -1,11 +1,11 @@
 -- Searches for a server: the first that is it ends them. Assumes nothing.
-use Rattle.std.proofs.Common.{◌≡◌, ℕ, suc, ◌+◌, ◌<◌, ◌≤◌, true, false, cond, ◌||◌, List, [], ◌∷◌, ◌++◌, map, length, get_or, drop, sym, refl, ap, ◌∙◌, subst, inl, inr, append_assoc, add-one, arith}
+use Rattle.std.proofs.Common.{◌≡◌, ℕ, suc, ◌+◌, ◌≤◌, true, false, cond, ◌||◌, List, [], ◌∷◌, ◌++◌, map, sym, refl, ap, ◌∙◌, subst, inl, inr, append_assoc, arith}
 use Rattle.std.specs.List.{list_any}
-use Rattle.std.proofs.lemmas.List.{drop_more, drop_all, append-nil}
+use Rattle.std.proofs.lemmas.List.{append-nil}
 use Rattle.std.proofs.lemmas.Bool.{cases_Bool}
 use Rattle.chain.specs.declared.way.Link.{Link}
 use Rattle.controller_bucket.specs.declared.kept.Bucket.{Bucket}
-use Rattle.controller_bucket.specs.Rules.{oldest}
+use Rattle.controller_bucket.specs.Rules.{Charge, oldest}
 use Rattle.controller_bucket.specs.Kept.{charge}
 use Rattle.controller.specs.Rules.{Ruling, up_from, is_among, goes_to, is_in_chain}
 use Rattle.controller.specs.declared.status.Waiting.{Waiting}
@@ -18,20 +18,22 @@ chain_of s [] = refl
 chain_of s (c ∷ cs) = ap (λ t. (is_among s (charge c).control.kept || goes_to s (charge c).control.handover) || t) (chain_of s cs)
 
 -- one bucket more: put off, or not
-pub waiting_yes : (cs : List Bucket) (b : ℕ) (x : Bucket) (l : Link) (was here : List Waiting) → b < length cs → x ≡ get_or cs b x → true ≡ (charge x).reported → l ≡ oldest (charge x)
-    → here ≡ was ++ record { bucket = b; oldest = l } ∷ [] → here ++ waiting_from (b + 1) (map charge (drop (b + 1) cs)) ≡ was ++ waiting_from b (map charge (drop b cs))
+pub waiting_yes : (b : ℕ) (c : Charge) (cs : List Charge) (l : Link) (was here : List Waiting) → true ≡ c.reported → l ≡ oldest c
+    → here ≡ was ++ record { bucket = b; oldest = l } ∷ [] → here ++ waiting_from (suc b) cs ≡ was ++ waiting_from b (c ∷ cs)
 unfolding waiting_from
-waiting_yes cs b x l was here h e t f g =
-    rw (drop_more cs b x h, ← e, ← t, g, f, add-one) (append_assoc was (record { bucket = b; oldest = oldest (charge x) } ∷ []) (waiting_from (suc b) (map charge (drop (suc b) cs))))
+waiting_yes b c cs l was here t f g = rw (← t, g, f) (append_assoc was (record { bucket = b; oldest = oldest c } ∷ []) (waiting_from (suc b) cs))
 
-pub waiting_no : (cs : List Bucket) (b : ℕ) (x : Bucket) (was : List Waiting) → b < length cs → x ≡ get_or cs b x → false ≡ (charge x).reported
-    → was ++ waiting_from (b + 1) (map charge (drop (b + 1) cs)) ≡ was ++ waiting_from b (map charge (drop b cs))
+pub waiting_no : (b : ℕ) (c : Charge) (cs : List Charge) (was : List Waiting) → false ≡ c.reported → was ++ waiting_from (suc b) cs ≡ was ++ waiting_from b (c ∷ cs)
 unfolding waiting_from
-waiting_no cs b x was h e t = rw (drop_more cs b x h, ← e, ← t, add-one)
+waiting_no b c cs was t = rw (← t)
 
-pub waiting_end : (cs : List Bucket) (b : ℕ) (was : List Waiting) → length cs ≤ b → was ++ waiting_from b (map charge (drop b cs)) ≡ was
+pub waiting_none : (m n : ℕ) → waiting_from m [] ≡ waiting_from n []
 unfolding waiting_from
-waiting_end cs b was h = rw (drop_all b cs h) (append-nil was)
+waiting_none m n = refl
+
+pub waiting_end : (b : ℕ) (cs : List Bucket) (was : List Waiting) → cs ≡ [] → was ++ waiting_from b (map charge cs) ≡ was
+unfolding waiting_from
+waiting_end b cs was e = rw e (append-nil was)
 
 -- one server more: it may go, or not
 go_append : (k : Ruling) (xs : List ℕ) (n : ℕ) → go_of k (xs ++ n ∷ []) ≡ go_of k xs ++ cond (may_go n k) (n ∷ []) []

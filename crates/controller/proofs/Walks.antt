@@ -70,15 +70,17 @@ unfolding begun_from
 begun_all_said ns cs b out h = rw (drop_all b cs h) (append-nil out)
 
 -- what is due of one bucket more
-pub due_more : (t : ℕ) (cs : List Bucket) (b : ℕ) (d : Bucket) (was here : List Sent) → b < length cs → here ≡ was ++ bucket.due b t (charge (get_or cs b d))
-    → here ++ due_from (b + 1) t (map charge (drop (b + 1) cs)) ≡ was ++ due_from b t (map charge (drop b cs))
+pub due_more : (t b : ℕ) (c : Charge) (cs : List Charge) (was here : List Sent) → here ≡ was ++ bucket.due b t c → here ++ due_from (suc b) t cs ≡ was ++ due_from b t (c ∷ cs)
 unfolding due_from
-due_more t cs b d was here h p =
-    rw (drop_more cs b d h, p, add-one) (append_assoc was (bucket.due b t (charge (get_or cs b d))) (due_from (suc b) t (map charge (drop (suc b) cs))))
+due_more t b c cs was here p = rw p (append_assoc was (bucket.due b t c) (due_from (suc b) t cs))
 
-pub due_end : (t : ℕ) (cs : List Bucket) (b : ℕ) (out : List Sent) → length cs ≤ b → out ++ due_from b t (map charge (drop b cs)) ≡ out
+pub due_none : (t m n : ℕ) → due_from m t [] ≡ due_from n t []
 unfolding due_from
-due_end t cs b out h = rw (drop_all b cs h) (append-nil out)
+due_none t m n = refl
+
+pub due_end : (t b : ℕ) (cs : List Bucket) (out : List Sent) → cs ≡ [] → out ++ due_from b t (map charge cs) ≡ out
+unfolding due_from
+due_end t b cs out e = rw e (append-nil out)
 
 -- what was sent before stays in front
 pub front_more : (e xs ys : List Sent) → take (length e) xs ≡ e → take (length e) (xs ++ ys) ≡ e

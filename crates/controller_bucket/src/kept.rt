@@ -1,4 +1,4 @@
-// The type alone: its ghost field imports each `ghost use` of the file, so the methods stand in `ops`.
+// What the controller keeps of one bucket; what it does stands in `ops`, what it says in `say`.
 use chain::kept::Chain;
 
 pub mod ops;

@@ -1,6 +1,6 @@
 -- What a step leaves, and what a stopped one does. Assumes nothing.
-use Rattle.std.proofs.Common.{◌≡◌, ℕ, ◌+◌, ◌^◌, ◌<◌, ◌≤◌, cond, List, [], ◌++◌, map, Ok, Err, Result, sym, refl, ap, ◌∙◌, subst, inl, inr, arith}
-use Rattle.std.proofs.lemmas.Bool.{lt-ltb, le-ltb}
+use Rattle.std.proofs.Common.{◌≡◌, ℕ, ◌+◌, ◌^◌, ◌<◌, cond, List, [], ◌++◌, map, Ok, Err, Result, sym, ap, ◌∙◌, subst, inl, inr, arith}
+use Rattle.std.proofs.lemmas.Bool.{lt-ltb}
 use Rattle.fault.specs.declared.Fault.{Fault}
 use Rattle.fault.specs.declared.Fault.TheVariants.{NoSuch}
 use Rattle.fault.specs.declared.Error.{Error}
@@ -46,6 +46,3 @@ pub in_time : (n : ℕ) (r : Result (Unit {0}) Error) (k k' : Ruling) (out out' 
 in_time n (Ok u) k k' out out' h d = subst (λ q. Did (cond q (Ok (ticked n k)) (Err NoSuch)) (Ok u) k k' out out') (sym (lt-ltb (k.tick + n) (2 ^ 64) h)) d
 in_time n (Err Memory) k k' out out' h d = subst (λ q. Did (cond q (Ok (ticked n k)) (Err NoSuch)) (Err Memory) k k' out out') (sym (lt-ltb (k.tick + n) (2 ^ 64) h)) d
 in_time n (Err (Of f)) k k' out out' h d = absurd (omega (arith, h, d.1))
-
-pub too_late : (n : ℕ) (k : Ruling) (out : List Sent) → 2 ^ 64 ≤ k.tick + n → Did (clocked n k) (Err (Of NoSuch)) k k out out
-too_late n k out h = subst (λ q. Did (cond q (Ok (ticked n k)) (Err NoSuch)) (Err (Of NoSuch)) k k out out) (sym (le-ltb (k.tick + n) (2 ^ 64) h)) (refl, refl, refl)

@@ -22,6 +22,7 @@ use std::alloc::Global;
 use wire::message::Order;
 
 // So many ticks pass. What a clock of 64 bits does not hold is refused.
+// Tested beforehand: `ticks` promises that what it refuses does not fit, not that it refuses all that does not.
 fn tick(controller: &mut Controller, count: u32, outbox: &mut Outbox) -> Result<(), Error>
     ensures { Did (clocked count (ruling controller.old)) result (ruling controller.old) (ruling controller.new) (sent_of outbox.old) (sent_of outbox.new) }
 {

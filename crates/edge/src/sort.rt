@@ -76,7 +76,7 @@ impl Role {
     }
 }
 
-// The kind of what came; of nothing at all, one that nobody takes.
+// The number that came as a kind, which may be none; of nothing at all, one that nobody takes.
 pub fn kind(bytes: &[u8]) -> u8
     ensures { result ≡ kind_in bytes.now }
 {

@@ -9,25 +9,12 @@ impl From<FlowKey> for [u8; 13] {
     ghost from_gives = { λ f bytes. bytes ≡ key_bytes f };
 
     fn from(flow: FlowKey) -> [u8; 13] {
-        let s = flow.src.to_be_bytes();
-        let d = flow.dst.to_be_bytes();
-        let a = flow.sport.to_be_bytes();
-        let b = flow.dport.to_be_bytes();
-        [
-            s[0],
-            s[1],
-            s[2],
-            s[3],
-            d[0],
-            d[1],
-            d[2],
-            d[3],
-            a[0],
-            a[1],
-            b[0],
-            b[1],
-            u8::from(flow.protocol),
-        ]
+        let [s0, s1, s2, s3] = flow.src.to_be_bytes();
+        let [d0, d1, d2, d3] = flow.dst.to_be_bytes();
+        let [a0, a1] = flow.sport.to_be_bytes();
+        let [b0, b1] = flow.dport.to_be_bytes();
+        let number = u8::from(flow.protocol);
+        [s0, s1, s2, s3, d0, d1, d2, d3, a0, a1, b0, b1, number]
     }
 }
 

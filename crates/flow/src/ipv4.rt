@@ -42,7 +42,8 @@ fn opens_tcp(flags: u8) -> bool
     flags & 0x02 != 0 && flags & 0x10 == 0
 }
 
-// Addresses at their places in the head, ports behind it.
+// Addresses at their places in the head, ports behind it. By position, as the format has them: a pattern over the head would only
+// name what is skipped.
 fn key_at(packet: &[u8], head: usize, protocol: Protocol) -> FlowKey
     requires { (head + 8 ≤ length packet.now) × (20 ≤ head) }
     ensures { result ≡ key_at packet.now head protocol }

@@ -1,4 +1,7 @@
 // A session's name as text: `10.0.0.7:4242>10.1.1.1:80/tcp`.
+ghost use Rattle.std.specs.Prelude.{◌≡◌, Some};
+ghost use Rattle.flow.specs.Text.{protocol_text, protocol_in, key_text};
+
 use crate::key::{FlowKey, Protocol};
 use fault::Fault;
 use std::fmt;
@@ -6,6 +9,8 @@ use std::net::Ipv4Addr;
 use std::str::FromStr;
 
 impl fmt::Display for Protocol {
+    ghost output = { λ p. Some (protocol_text p) };
+
     fn fmt<W: fmt::Write>(&self, f: &mut fmt::Formatter<W>) -> fmt::Result {
         f.write_str(match self {
             Protocol::Tcp => "tcp",
@@ -17,6 +22,8 @@ impl fmt::Display for Protocol {
 impl FromStr for Protocol {
     type Err = Fault;
 
+    ghost from_str_gives = { λ text r. r ≡ protocol_in text };
+
     fn from_str(text: &str) -> Result<Protocol, Fault> {
         match text {
             "tcp" => Ok(Protocol::Tcp),
@@ -27,6 +34,8 @@ impl FromStr for Protocol {
 }
 
 impl fmt::Display for FlowKey {
+    ghost output = { λ f. Some (key_text f) };
+
     fn fmt<W: fmt::Write>(&self, f: &mut fmt::Formatter<W>) -> fmt::Result {
         let (src, dst) = (Ipv4Addr::from(self.src), Ipv4Addr::from(self.dst));
         write!(

@@ -1,6 +1,6 @@
 // The houses that have all buckets, as the script lists them.
 use assignment::counts::counts;
-use assignment::moves::moves;
+use assignment::moves::{Move, moves};
 use fault::{Error, Fault};
 use roster::roster::{Roster, is_buckets, unassigned};
 use script::command::Command;
@@ -33,8 +33,8 @@ impl Houses {
                 let servers = read_servers(heap, line)?;
                 self.begin(heap, self.buckets, servers.as_slice())
             }
-            Command::Add { server } => self.add(heap, server),
-            Command::Remove { server } => self.remove(heap, server),
+            Command::Add { server } => self.change(heap, |roster| roster.add(heap, server)),
+            Command::Remove { server } => self.change(heap, |roster| roster.remove(heap, server)),
             _ => Ok(Change::none(heap)),
         }
     }
@@ -56,23 +56,23 @@ impl Houses {
         let roster = Roster::new(heap, buckets, servers)?;
         let nothing = unassigned(heap, buckets)?;
         let moves = moves(heap, nothing.as_slice(), roster.assignment())?;
-        let has = counts(roster.assignment());
+        let change = Change::new(heap, [0; 256], counts(roster.assignment()), moves)?;
         self.buckets = buckets;
         self.roster = Some(roster);
-        Ok(Change::new(heap, [0; 256], has, moves)?)
+        Ok(change)
     }
 
-    fn add(&mut self, heap: Global, server: u8) -> Result<Change, Error> {
+    // A server comes or goes.
+    fn change<S: FnOnce(&mut Roster) -> Result<Vec<Move>, Error>>(
+        &mut self,
+        heap: Global,
+        step: S,
+    ) -> Result<Change, Error>
+        requires { S.IsAlwaysCallable step }
+    {
         let roster = self.roster.as_mut().ok_or(Fault::NoServer)?;
         let had = counts(roster.assignment());
-        let moves = roster.add(heap, server)?;
-        Ok(Change::new(heap, had, counts(roster.assignment()), moves)?)
-    }
-
-    fn remove(&mut self, heap: Global, server: u8) -> Result<Change, Error> {
-        let roster = self.roster.as_mut().ok_or(Fault::NoServer)?;
-        let had = counts(roster.assignment());
-        let moves = roster.remove(heap, server)?;
+        let moves = step(roster)?;
         Ok(Change::new(heap, had, counts(roster.assignment()), moves)?)
     }
 }

@@ -10,6 +10,7 @@ use Rattle.fault.specs.declared.Error.{Error}
 use Rattle.fault.specs.declared.Error.TheVariants.{Of, Memory}
 use Rattle.machine.specs.declared.name.Machine.{Machine}
 use Rattle.machine.specs.declared.name.Machine.TheVariants.{Client, Operator, Balancer, Server, Controller}
+pub use Rattle.machine.specs.Names.{name_text}
 use Rattle.words.specs.Words.{word_of, rest_of, after_space, numeral}
 use Rattle.lines.specs.declared.kept.Line.{Line}
 
@@ -116,13 +117,6 @@ hex_of d = cond (nat_lt d 10) (48 + d) (87 + d)
 
 abbrev pub hex_text : List ℕ → List ℕ
 hex_text = flat_map (λ b. hex_of (b / 16) ∷ hex_of (b % 16) ∷ [])
-
-abbrev pub name_text : Machine → List ℕ
-name_text Client = codes "client"
-name_text Operator = codes "order"
-name_text (Balancer d) = codes "door " ++ decimal d
-name_text (Server s) = codes "house " ++ decimal s
-name_text Controller = codes "office"
 
 abbrev pub line_text : Machine → List ℕ → List ℕ
 line_text m bs = name_text m ++ 32 ∷ hex_text bs

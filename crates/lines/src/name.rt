@@ -1,29 +1,10 @@
 // The machine that a line names: `client`, `order`, `office`, `door N` or `house N`.
-ghost use Rattle.std.specs.Prelude.{◌≡◌, Some};
-ghost use Rattle.lines.specs.Lines.{number_in, balancer, server, lone, by_word, name_text, shown};
+ghost use Rattle.std.specs.Prelude.{◌≡◌};
+ghost use Rattle.lines.specs.Lines.{number_in, balancer, server, lone, by_word, shown};
 
 use fault::Fault;
 use machine::name::Machine;
-use std::fmt;
 use words::{after_space, number, split_word};
-
-// A machine that is printed by its name.
-#[derive(Clone, Copy)]
-pub(crate) struct Name(pub(crate) Machine);
-
-impl fmt::Display for Name {
-    ghost output = { λ name. Some (name_text name.0) };
-
-    fn fmt<W: fmt::Write>(&self, f: &mut fmt::Formatter<W>) -> fmt::Result {
-        match self.0 {
-            Machine::Client => f.write_str("client"),
-            Machine::Operator => f.write_str("order"),
-            Machine::Balancer(number) => write!(f, "door {number}"),
-            Machine::Server(number) => write!(f, "house {number}"),
-            Machine::Controller => f.write_str("office"),
-        }
-    }
-}
 
 // A space, a number, and what is behind it.
 fn read_number(rest: &[u8]) -> Result<(u32, &[u8]), Fault>

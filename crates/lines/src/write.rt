@@ -3,14 +3,13 @@ ghost use Rattle.std.specs.Prelude.{◌≡◌, IfOk};
 ghost use Rattle.lines.specs.Lines.{line_text, packet_text};
 
 use crate::hex::push_hex;
-use crate::name::Name;
 use machine::name::Machine;
 use std::alloc::{AllocError, Global};
 
 pub fn line_text(heap: Global, machine: Machine, bytes: &[u8]) -> Result<Vec<u8>, AllocError>
     ensures { IfOk result (λ v. v.items ≡ line_text machine bytes.now) }
 {
-    let mut text = format!(in heap; "{} ", Name(machine))?;
+    let mut text = format!(in heap; "{machine} ")?;
     push_hex(bytes, &mut text)?;
     Ok(text.into_bytes())
 }

@@ -1,3 +1,4 @@
+pub mod Names
 pub mod Again
 pub mod Notes
 pub mod Steps

@@ -2,7 +2,7 @@
 use edge::post::Posted;
 use machine::name::Machine;
 
-// The room, and how much of it is written.
+// The room that the C interface lends, and how much of it is written.
 #[derive(Drop)]
 pub struct Writer<'a> {
     out: &'a mut [u8],

@@ -5,7 +5,7 @@ mod show;
 mod text;
 
 use crate::show::{show_bucket, show_status, show_summary};
-use crate::text::{EventText, MachineText, MessageText};
+use crate::text::{EventText, MessageText};
 use anyhow::anyhow;
 use assignment::counts::counts;
 use assignment::moves::moves;
@@ -79,9 +79,7 @@ impl Player {
     fn print_letter(&self, rt: &HostRuntime, letter: &Letter) -> anyhow::Result<()> {
         print!(rt;
             "  on its way {}, {} to {}: ",
-            letter.number,
-            MachineText(letter.from),
-            MachineText(letter.to)
+            letter.number, letter.from, letter.to
         )?;
         match read(letter.bytes.as_slice(), self.simulation.buckets()) {
             Ok(message) => println!(rt; "{}", MessageText(message))?,

@@ -103,13 +103,12 @@ pub fn show_status(rt: &HostRuntime, simulation: &Simulation) -> anyhow::Result<
 
 pub fn show_summary(rt: &HostRuntime, simulation: &Simulation) -> anyhow::Result<()> {
     let tally = simulation.tally();
-    let mut places = 0usize;
-    for bucket in 0..=65535u16 {
-        let Some(kept) = simulation.controller().bucket(bucket) else {
-            break;
-        };
-        places = places.saturating_add(kept.links().len());
-    }
+    let places = (0..=u16::MAX)
+        .map_while(|bucket| simulation.controller().bucket(bucket))
+        .fold(
+            0usize,
+            |places, kept| places.saturating_add(kept.links().len()),
+        );
     println!(rt;
         "  tables opened {}, packets given {}, refused {}, messages lost {}, longest way {}, places kept {places}, on their way {}",
         tally.opened,

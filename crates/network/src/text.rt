@@ -1,24 +1,8 @@
 // What is printed of machines, messages and events. Here a server is a house, a balancer a door, the controller the office, a session a table.
-use machine::name::Machine;
 use shown::text::{LinkText, NeighbourText, PacketText};
 use simulation::event::Event;
 use std::fmt;
 use wire::message::{Control, Message};
-
-#[derive(Drop)]
-pub struct MachineText(pub Machine);
-
-impl fmt::Display for MachineText {
-    fn fmt<W: fmt::Write>(&self, f: &mut fmt::Formatter<W>) -> fmt::Result {
-        match self.0 {
-            Machine::Client => f.write_str("client"),
-            Machine::Operator => f.write_str("order"),
-            Machine::Controller => f.write_str("office"),
-            Machine::Server(server) => write!(f, "house {server}"),
-            Machine::Balancer(balancer) => write!(f, "door {balancer}"),
-        }
-    }
-}
 
 #[derive(Drop)]
 struct ControlText(Control);
@@ -91,9 +75,7 @@ impl fmt::Display for EventText {
     fn fmt<W: fmt::Write>(&self, f: &mut fmt::Formatter<W>) -> fmt::Result {
         match self.0 {
             Event::Sent { number, .. } => write!(f, "on its way {number}"),
-            Event::Handled { number, at, .. } => {
-                write!(f, "handled {number} at {}", MachineText(at))
-            }
+            Event::Handled { number, at, .. } => { write!(f, "handled {number} at {at}") }
             Event::Lost { number, .. } => write!(f, "lost {number}"),
             Event::Given {
                 at,

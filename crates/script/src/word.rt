@@ -1,5 +1,5 @@
 // Words of a line, as the scripts of both programs have them.
-ghost use Rattle.std.specs.Prelude.{◌≡◌, Ok, IfOk, IfErr};
+ghost use Rattle.std.specs.Prelude.{◌≡◌, Ok, Err, IfOk, IfErr};
 ghost use Rattle.script.specs.Switch.{switch};
 ghost use Rattle.fault.specs.declared.Fault.TheVariants.{Malformed};
 
@@ -11,7 +11,7 @@ pub fn number<T: FromStr>(word: &str) -> Result<T, Fault>
 where
     T::Err: Drop,
     ensures read { IfOk result (λ n. T.from_str_gives word.now (Ok n)) }
-    ensures refused { IfErr result (λ f. f ≡ Malformed) }
+    ensures refused { IfErr result (λ f. (f ≡ Malformed) × ((e : T.Err) × T.from_str_gives word.now (Err e))) }
 {
     word.parse::<T>().ok().ok_or(Fault::Malformed)
 }

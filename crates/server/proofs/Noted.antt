@@ -1,9 +1,10 @@
 -- The open sessions by place, noted one by one. Assumes nothing.
-use Rattle.std.proofs.Common.{◌≡◌, ℕ, suc, ◌+◌, ◌<◌, ◌≤◌, List, ◌++◌, map, length, get_or, drop, sym, ap, ◌∙◌, arith}
+use Rattle.std.proofs.Common.{◌≡◌, ℕ, suc, ◌+◌, ◌<◌, ◌≤◌, List, [], ◌∷◌, ◌++◌, map, length, get_or, drop, sym, refl, ap, ◌∙◌, append_assoc}
 use Rattle.std.proofs.lemmas.List.{at_drop_more, at_drop_all, append-nil}
 use Rattle.chain.specs.declared.place.Place.{Place}
 use Rattle.sessions.specs.declared.entry.Entry.{Entry}
 use Rattle.server_bucket.specs.declared.kept.Bucket.{Bucket}
+use Rattle.server_bucket.specs.Rules.{Holding}
 use Rattle.server_bucket.specs.Kept.{holding}
 use Rattle.server_bucket.proofs.Joined.{rest_more}
 use Rattle.server.specs.declared.busy.Busy.{Busy}
@@ -19,17 +20,15 @@ pub busy_all : (b i : ℕ) (es : List Entry) (xs : List Place) (out w : List Bus
 unfolding busy_in
 busy_all b i es xs out w h inv = sym (ap (λ x. out ++ x) (at_drop_all (busy_in b es) xs i h) ∙ append-nil out) ∙ inv
 
-pub buckets_more : (i : ℕ) (es : List Entry) (bs : List Bucket) (s : Bucket) (out out' w : List Busy) → i < length bs → s ≡ get_or bs i s → out' ≡ out ++ busy_in i es (holding s).known.standing
-    → out ++ busy_from i es (map holding (drop i bs)) ≡ w → out' ++ busy_from (i + 1) es (map holding (drop (i + 1) bs)) ≡ w
+pub buckets_more : (b : ℕ) (es : List Entry) (h : Holding) (hs : List Holding) (was here : List Busy) → here ≡ was ++ busy_in b es h.known.standing
+    → here ++ busy_from (suc b) es hs ≡ was ++ busy_from b es (h ∷ hs)
 unfolding busy_from
-buckets_more i es bs s out out' w h g o inv =
-    let n : suc i ≡ i + 1 = omega arith in
-    let m : busy_from i es (map holding (drop i bs)) ≡ busy_in i es (holding (get_or bs i s)).known.standing ++ busy_from (suc i) es (map holding (drop (i + 1) bs))
-    = at_drop_more (λ xs. busy_from i es (map holding xs)) bs i s h in
-    rest_more out out' (busy_in i es (holding s).known.standing) (busy_from i es (map holding (drop i bs))) (busy_from (i + 1) es (map holding (drop (i + 1) bs))) w o
-    (m ∙ (ap (λ x. busy_in i es (holding x).known.standing ++ busy_from (suc i) es (map holding (drop (i + 1) bs))) (sym g)
-    ∙ ap (λ j. busy_in i es (holding s).known.standing ++ busy_from j es (map holding (drop (i + 1) bs))) n)) inv
+buckets_more b es h hs was here p = rw p (append_assoc was (busy_in b es h.known.standing) (busy_from (suc b) es hs))
 
-pub buckets_all : (i : ℕ) (es : List Entry) (bs : List Bucket) (out w : List Busy) → length bs ≤ i → out ++ busy_from i es (map holding (drop i bs)) ≡ w → out ≡ w
+pub buckets_none : (es : List Entry) (m n : ℕ) → busy_from m es [] ≡ busy_from n es []
 unfolding busy_from
-buckets_all i es bs out w h inv = sym (ap (λ x. out ++ x) (at_drop_all (λ xs. busy_from i es (map holding xs)) bs i h) ∙ append-nil out) ∙ inv
+buckets_none es m n = refl
+
+pub buckets_all : (b : ℕ) (es : List Entry) (bs : List Bucket) (out : List Busy) → bs ≡ [] → out ++ busy_from b es (map holding bs) ≡ out
+unfolding busy_from
+buckets_all b es bs out e = rw e (append-nil out)

@@ -1,7 +1,7 @@
 -- Ticks at a server, bucket by bucket and session by session. Assumes nothing.
-use Rattle.std.proofs.Common.{◌≡◌, ℕ, suc, ◌+◌, ◌<◌, ◌≤◌, List, [], ◌∷◌, ◌++◌, map, length, get_or, take, drop, set, IfOk, Ok, Err, Result, sym, ap, ◌∙◌, arith, MatchResult}
+use Rattle.std.proofs.Common.{◌≡◌, ℕ, suc, ◌+◌, ◌<◌, ◌≤◌, List, [], ◌∷◌, ◌++◌, map, length, get_or, take, drop, set, IfOk, Ok, Err, Result, sym, refl, ap, ◌∙◌, append_assoc, arith, MatchResult}
 use Rattle.std.proofs.lemmas.List.Edits.{map_over_more}
-use Rattle.std.proofs.lemmas.List.{map-set, get_or-map, length-map, length-take, take-append-le, at_drop_more, at_drop_all}
+use Rattle.std.proofs.lemmas.List.{map-set, get_or-map, length-map, length-take, append-nil, take-append-le, at_drop_more, at_drop_all}
 use Rattle.sessions.specs.declared.entry.Entry.{Entry}
 use Rattle.sessions.specs.declared.key.Key.{Key}
 use Rattle.sessions.specs.Entries.{idle_keys}
@@ -15,22 +15,17 @@ use Rattle.server.specs.Rules.{Keeping, due_from, emptied, emptied_all}
 
 -- WHAT IS DUE
 
-due_at : (t i : ℕ) (bs : List Bucket) (d : Bucket) → i < length bs
-    → due_from i t (map holding (drop i bs)) ≡ bucket.due i t (holding (get_or bs i d)) ++ due_from (i + 1) t (map holding (drop (i + 1) bs))
+pub due_more : (t b : ℕ) (h : Holding) (hs : List Holding) (was here : List Sent) → here ≡ was ++ bucket.due b t h → here ++ due_from (suc b) t hs ≡ was ++ due_from b t (h ∷ hs)
 unfolding due_from
-due_at t i bs d h =
-    let s : suc i ≡ i + 1 = omega arith in
-    at_drop_more (λ xs. due_from i t (map holding xs)) bs i d h ∙ ap (λ j. bucket.due i t (holding (get_or bs i d)) ++ due_from j t (map holding (drop (i + 1) bs))) s
+due_more t b h hs was here p = rw p (append_assoc was (bucket.due b t h) (due_from (suc b) t hs))
 
-pub due_more : (t i b : ℕ) (bs : List Bucket) (s : Bucket) (out out' w : List Sent) → i < length bs → s ≡ get_or bs i s → b ≡ i → out' ≡ out ++ bucket.due b t (holding s)
-    → out ++ due_from i t (map holding (drop i bs)) ≡ w → out' ++ due_from (i + 1) t (map holding (drop (i + 1) bs)) ≡ w
-due_more t i b bs s out out' w h g is o inv =
-    let m = due_at t i bs s h ∙ ap (λ x. bucket.due i t (holding x) ++ due_from (i + 1) t (map holding (drop (i + 1) bs))) (sym g) in
-    rest_more out out' (bucket.due i t (holding s)) (due_from i t (map holding (drop i bs))) (due_from (i + 1) t (map holding (drop (i + 1) bs))) w (o ∙ ap (λ j. out ++ bucket.due j t (holding s)) is) m inv
-
-pub due_all : (t i : ℕ) (bs : List Bucket) → length bs ≤ i → due_from i t (map holding (drop i bs)) ≡ []
+pub due_none : (t m n : ℕ) → due_from m t [] ≡ due_from n t []
 unfolding due_from
-due_all t i bs h = at_drop_all (λ xs. due_from i t (map holding xs)) bs i h
+due_none t m n = refl
+
+pub due_all : (t b : ℕ) (bs : List Bucket) (out : List Sent) → bs ≡ [] → out ++ due_from b t (map holding bs) ≡ out
+unfolding due_from
+due_all t b bs out e = rw e (append-nil out)
 
 -- what was there stays in front
 pub in_front : (was out out' x : List Sent) → out' ≡ out ++ x → take (length was) out ≡ was → take (length was) out' ≡ was

@@ -54,8 +54,7 @@ fn pass(
 fn post_copy(to: Machine, bytes: &[u8], out: &mut Post) -> Result<(), Error>
     ensures { Adds to bytes.now result (mails_of out.old) (mails_of out.new) }
 {
-    let mut copy = Vec::new(out.heap());
-    copy.extend_from_slice(bytes)?;
+    let copy = Vec::from_slice(out.heap(), bytes)?;
     out.add(to, copy)
 }
 
@@ -117,6 +116,7 @@ fn close(server: &mut Server, heap: Global, flow: FlowKey, out: &mut Post) -> Re
 }
 
 // So many ticks pass. What a clock of 64 bits does not hold is refused.
+// Tested beforehand: `ticks` promises that what it refuses does not fit, not that it refuses all that does not.
 fn tick(
     server: &mut Server,
     heap: Global,
@@ -168,10 +168,7 @@ fn is_for_place(kind: u8) -> bool
 fn is_lost(server: &Server, kind: u8, at: Option<At>) -> bool
     ensures { result ≡ (is_for_place kind && is_unknown at (keeping server.now)) }
 {
-    let Some(at) = at else {
-        return false;
-    };
-    is_for_place(kind) && !server.knows(at.bucket, at.place)
+    is_for_place(kind) && at.is_some_and(|at| !server.knows(at.bucket, at.place))
 }
 
 // What is no message is refused.

@@ -1,6 +1,6 @@
 -- Tallies after a change of one of them. Assumes nothing.
-use Rattle.std.proofs.Common.{◌≡◌, ℕ, suc, ◌+◌, ◌-◌, ◌<◌, ◌≤◌, Bool, cond, ◌&&◌, eqb, ltb, List, [], ◌∷◌, ◌++◌, get_or, take, drop, set, Some, None, sym, refl, ap, ◌∙◌, inl, inr, arith, drop-cons}
-use Rattle.std.proofs.lemmas.List.Sums.{sum_by-cons, sum_by_push, sum_by-set, sum_by-append, sum_by-take-drop, get_or-le-sum_by}
+use Rattle.std.proofs.Common.{◌≡◌, ℕ, suc, ◌+◌, ◌-◌, ◌<◌, ◌≤◌, Bool, cond, ◌&&◌, eqb, ltb, List, [], ◌∷◌, get_or, take, drop, set, Some, None, sym, refl, ap, ◌∙◌, inl, inr, arith, drop-cons}
+use Rattle.std.proofs.lemmas.List.Sums.{sum_by-cons, sum_by-set, sum_by-append, sum_by-take-drop, get_or-le-sum_by}
 use Rattle.std.proofs.lemmas.Bool.{cases_Bool, cases_eq, eqb-true, ltb-true, and_parts, ne_eqb}
 use Rattle.std.proofs.lemmas.Bool.Decides.{nat_tests}
 use Rattle.std.specs.List.{remove, position}
@@ -37,9 +37,6 @@ raised_set p ts i x found g q =
     let e : x.place ≡ p = ap (λ t. t.place) g ∙ h.0 in
     let s = sum_by-set (tally_of q) ts i (record { place = p; count = x.count + 1 }) x m.0 in
     rw e (elim (cases_Bool (eqb p q)) [ inl y ↦ rw y (omega (arith, rw y at o, rw y at s)) | inr n ↦ rw n (omega (arith, rw n at o, rw n at s)) ])
-
-pub raised_push : (p : ℕ) (ts : List Tally) → (q : ℕ) → tallied_in q (ts ++ record { place = p; count = 1 } ∷ []) ≡ tallied_in q ts + cond (eqb p q) 1 0
-raised_push p ts q = sum_by_push (tally_of q) ts (record { place = p; count = 1 })
 
 pub lowered_set : (p : ℕ) (ts : List Tally) (i : ℕ) (x : Tally) → position (counts p) ts ≡ Some i → x ≡ get_or ts i x
     → (q : ℕ) → tallied_in q (set ts i (record { place = x.place; count = x.count - 1 })) ≡ tallied_in q ts - cond (eqb p q) 1 0

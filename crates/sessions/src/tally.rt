@@ -1,4 +1,4 @@
-// How many sessions are open in each place of one bucket: a tally for each place that has any.
+// How many sessions are open in each place of one bucket: a tally for each place that has any. At most eight, so that a list is looked through.
 ghost use Rattle.std.specs.Prelude.{◌≡◌, ℕ, ◌+◌, ◌-◌, ◌<◌, ◌≤◌, ◌&&◌, if◌then◌else◌, MatchResult, position, ◌==◌, nat_eq, nat_lt};
 ghost use Rattle.sessions.specs.Tallies.{tallied_in};
 

@@ -1,11 +1,14 @@
 // The sessions of a server played from a script of bytes, for measuring from another language.
 #![tactic(auto)]
 
+ghost use Rattle.std.specs.Prelude.{◌+◌, ◌≤◌};
+
 use fault::Error;
 use flow::key::{FlowKey, Protocol};
 use sessions::key::Key;
 use sessions::store::Sessions;
 use std::alloc::Global;
+use std::array;
 
 // A step: what is done (1), bucket (2), place (4), both addresses (8), both ports (4), protocol (1), tick (8).
 const STEP: usize = 28;
@@ -35,46 +38,29 @@ impl From<u8> for Action {
     }
 }
 
+// The bytes of a number that begins at a byte of a step.
+fn bytes<const N: usize>(step: &[u8; STEP], at: usize) -> [u8; N]
+    requires { at + N ≤ 28 }
+{
+    array::from_fn(|i| step[at + i])
+}
+
 fn key_of(step: &[u8; STEP]) -> Key {
-    let [
-        _,
-        b0,
-        b1,
-        p0,
-        p1,
-        p2,
-        p3,
-        s0,
-        s1,
-        s2,
-        s3,
-        d0,
-        d1,
-        d2,
-        d3,
-        a0,
-        a1,
-        c0,
-        c1,
-        protocol,
-        ..
-    ] = *step;
     Key {
-        bucket: u16::from_be_bytes([b0, b1]),
-        place: u32::from_be_bytes([p0, p1, p2, p3]),
+        bucket: u16::from_be_bytes(bytes(step, 1)),
+        place: u32::from_be_bytes(bytes(step, 3)),
         flow: FlowKey {
-            src: u32::from_be_bytes([s0, s1, s2, s3]),
-            dst: u32::from_be_bytes([d0, d1, d2, d3]),
-            sport: u16::from_be_bytes([a0, a1]),
-            dport: u16::from_be_bytes([c0, c1]),
-            protocol: Protocol::try_from(protocol).unwrap_or(Protocol::Udp),
+            src: u32::from_be_bytes(bytes(step, 7)),
+            dst: u32::from_be_bytes(bytes(step, 11)),
+            sport: u16::from_be_bytes(bytes(step, 15)),
+            dport: u16::from_be_bytes(bytes(step, 17)),
+            protocol: Protocol::try_from(step[19]).unwrap_or(Protocol::Udp),
         },
     }
 }
 
 fn tick_of(step: &[u8; STEP]) -> u64 {
-    let [.., t0, t1, t2, t3, t4, t5, t6, t7] = *step;
-    u64::from_be_bytes([t0, t1, t2, t3, t4, t5, t6, t7])
+    u64::from_be_bytes(bytes(step, 20))
 }
 
 fn opened(answer: Result<(), Error>) -> u8 {

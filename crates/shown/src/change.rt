@@ -1,4 +1,7 @@
 // What is printed when buckets change hands.
+ghost use Rattle.std.specs.Prelude.{◌≡◌, [], IfOk};
+ghost use Rattle.shown.specs.Changes.{changed, holdings, Keeps};
+
 use assignment::moves::Move;
 use std::alloc::{AllocError, Global};
 
@@ -10,6 +13,26 @@ struct Holding {
     has: usize,
 }
 
+impl Holding {
+    fn changed(server: usize, had: usize, has: usize) -> Option<Holding>
+        ensures { result ≡ changed server had has }
+    {
+        let server = u8::try_from(server).ok()?;
+        (had != has).then_some(Holding { server, had, has })
+    }
+}
+
+// Those of all servers, by their number.
+fn holdings(heap: Global, had: &[usize], has: &[usize]) -> Result<Vec<Holding>, AllocError>
+    ensures { IfOk result (λ v. v.items ≡ holdings had.now has.now) }
+{
+    had.iter()
+        .zip(has)
+        .enumerate()
+        .filter_map(|(server, (had, has))| Holding::changed(server, *had, *has))
+        .collect(heap)
+}
+
 #[derive(Drop)]
 pub struct Change {
     holdings: Vec<Holding>,
@@ -17,7 +40,9 @@ pub struct Change {
 }
 
 impl Change {
-    pub fn none(heap: Global) -> Change {
+    pub fn none(heap: Global) -> Change
+        ensures { Keeps [] [] result }
+    {
         Change {
             holdings: Vec::new(heap),
             moves: Vec::new(heap),
@@ -30,16 +55,16 @@ impl Change {
         had: [usize; 256],
         has: [usize; 256],
         moves: Vec<Move>,
-    ) -> Result<Change, AllocError> {
-        let mut holdings = Vec::new(heap);
-        for (server, (had, has)) in (0..=255u8).zip(had.into_iter().zip(has)) {
-            if had != has {
-                holdings.push(Holding { server, had, has })?;
-            }
-        }
-        Ok(Change { holdings, moves })
+    ) -> Result<Change, AllocError>
+        ensures { IfOk result (Keeps (holdings had has) moves.items) }
+    {
+        Ok(Change {
+            holdings: holdings(heap, &had, &has)?,
+            moves,
+        })
     }
 
+    // The outputs of both programs test what this prints.
     pub fn print(&self, rt: &HostRuntime) -> anyhow::Result<()> {
         for Holding { server, had, has } in self.holdings.as_slice() {
             println!(rt; "  house {server}: {had} -> {has}")?;
@@ -103,4 +128,27 @@ fn print_run(rt: &HostRuntime, first: u16, last: u16) -> anyhow::Result<()> {
         print!(rt; " {first}-{last}")?;
     }
     Ok(())
+}
+
+#[cfg(test)]
+mod tests {
+    use super::*;
+    use std::test::Fail;
+
+    #[test]
+    fn those_that_differ(rt: HostRuntime) -> Result<(), Fail> {
+        let mut has = [0; 256];
+        has[3] = 16;
+        let change = Change::new(rt.alloc(), [0; 256], has, Vec::new(rt.alloc()))?;
+        assert_eq!(rt; change.holdings.len(), 1);
+        assert_eq!(rt;
+            change.holdings[0],
+            Holding {
+                server: 3,
+                had: 0,
+                has: 16
+            }
+        );
+        Ok(())
+    }
 }

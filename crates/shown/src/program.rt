@@ -1,4 +1,5 @@
 // What a program that plays a script prints besides: help, titles, faults.
+// No contract can say what is printed through the runtime: the outputs of both programs test it.
 use anyhow::anyhow;
 use fault::Error;
 use std::env;

@@ -1,4 +1,8 @@
 // Places, ways, bytes and chains, to be shown.
+ghost use Rattle.std.specs.Prelude.{◌≡◌, Some};
+ghost use Rattle.std.specs.Fmt.{WritesOnOk};
+ghost use Rattle.shown.specs.Texts.{byte_text, hex_text, link_text, number_of, number_text, neighbour_text, place_text, way_text, packet_text, chain_text, NeighbourOf, PlaceOf};
+
 use chain::handover::Handover;
 use chain::place::{Place, Standing};
 use chain::way::{Link, Way};
@@ -9,24 +13,37 @@ use std::fmt;
 pub struct HexText<'a>(pub &'a [u8]);
 
 impl fmt::Display for HexText<'_> {
+    ghost output = { λ t. Some (hex_text t.0.now) };
+
     fn fmt<W: fmt::Write>(&self, f: &mut fmt::Formatter<W>) -> fmt::Result {
         for byte in self.0 {
-            write!(f, "{byte:02x}")?;
+            write_byte(f, *byte)?;
         }
         Ok(())
     }
+}
+
+// Not in the loop above: there it isn't known that a byte of a struct's slice is below 256, which two digits need.
+fn write_byte<W: fmt::Write>(f: &mut fmt::Formatter<W>, byte: u8) -> fmt::Result
+    ensures { WritesOnOk W.Write.write_str_gives f.old result (byte_text byte) f.new }
+{
+    write!(f, "{byte:02x}")
 }
 
 #[derive(Drop)]
 pub struct LinkText(pub Link);
 
 impl fmt::Display for LinkText {
+    ghost output = { λ t. Some (link_text t.0) };
+
     fn fmt<W: fmt::Write>(&self, f: &mut fmt::Formatter<W>) -> fmt::Result {
         write!(f, "place {} of house {}", self.0.place, self.0.server)
     }
 }
 
 impl From<Link> for LinkText {
+    ghost from_gives = { λ link t. t.0 ≡ link };
+
     fn from(link: Link) -> LinkText {
         LinkText(link)
     }
@@ -37,12 +54,16 @@ impl From<Link> for LinkText {
 pub struct NumberText(u32);
 
 impl From<Link> for NumberText {
+    ghost from_gives = { λ link t. number_of t ≡ link.place };
+
     fn from(link: Link) -> NumberText {
         NumberText(link.place)
     }
 }
 
 impl fmt::Display for NumberText {
+    ghost output = { λ t. Some (number_text t) };
+
     fn fmt<W: fmt::Write>(&self, f: &mut fmt::Formatter<W>) -> fmt::Result {
         write!(f, "{}", self.0)
     }
@@ -53,6 +74,8 @@ impl fmt::Display for NumberText {
 pub struct NeighbourText<N>(pub Option<N>);
 
 impl<N: From<Link>> From<Option<Link>> for NeighbourText<N> {
+    ghost from_gives = { λ link t. NeighbourOf N.from_gives link t.0 };
+
     fn from(link: Option<Link>) -> NeighbourText<N> {
         match link {
             Some(link) => NeighbourText(Some(N::from(link))),
@@ -62,6 +85,8 @@ impl<N: From<Link>> From<Option<Link>> for NeighbourText<N> {
 }
 
 impl<N: fmt::Display> fmt::Display for NeighbourText<N> {
+    ghost output = { λ t. neighbour_text N.output t.0 };
+
     fn fmt<W: fmt::Write>(&self, f: &mut fmt::Formatter<W>) -> fmt::Result {
         match &self.0 {
             Some(neighbour) => write!(f, "{neighbour}"),
@@ -86,6 +111,8 @@ pub enum PlaceText<N> {
 }
 
 impl<N: From<Link>> From<Place> for PlaceText<N> {
+    ghost from_gives = { PlaceOf N.from_gives };
+
     fn from(place: Place) -> PlaceText<N> {
         let here = LinkText(place.link);
         match place.standing {
@@ -104,6 +131,8 @@ impl<N: From<Link>> From<Place> for PlaceText<N> {
 }
 
 impl<N: fmt::Display> fmt::Display for PlaceText<N> {
+    ghost output = { place_text N.output };
+
     fn fmt<W: fmt::Write>(&self, f: &mut fmt::Formatter<W>) -> fmt::Result {
         match self {
             PlaceText::Never(here) => write!(f, "{here} does not stand yet"),
@@ -123,6 +152,8 @@ impl<N: fmt::Display> fmt::Display for PlaceText<N> {
 struct WayText(Way);
 
 impl fmt::Display for WayText {
+    ghost output = { λ t. Some (way_text t.0) };
+
     fn fmt<W: fmt::Write>(&self, f: &mut fmt::Formatter<W>) -> fmt::Result {
         match self.0 {
             Way::Up => f.write_str("up"),
@@ -141,18 +172,17 @@ pub struct PacketText {
 }
 
 impl fmt::Display for PacketText {
+    ghost output = { λ t. Some (packet_text t) };
+
     fn fmt<W: fmt::Write>(&self, f: &mut fmt::Formatter<W>) -> fmt::Result {
+        let opens = if self.opens { ", may open" } else { "" };
         write!(
             f,
-            "packet {} to place {}, {}",
+            "packet {} to place {}, {}{opens}",
             self.flow,
             self.place,
             WayText(self.way)
-        )?;
-        if self.opens {
-            f.write_str(", may open")?;
-        }
-        Ok(())
+        )
     }
 }
 
@@ -164,6 +194,8 @@ pub struct ChainText<'a> {
 }
 
 impl fmt::Display for ChainText<'_> {
+    ghost output = { λ t. Some (chain_text t.links.now t.handover) };
+
     fn fmt<W: fmt::Write>(&self, f: &mut fmt::Formatter<W>) -> fmt::Result {
         f.write_str("office keeps")?;
         for link in self.links {

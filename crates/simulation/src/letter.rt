@@ -13,7 +13,7 @@ pub struct Letter {
 }
 
 impl Letter {
-    // Every message between machines names its bucket behind its kind.
+    // Every message between machines names its bucket behind its kind; whoever shows a letter takes bucket 0 for none.
     pub fn bucket(&self) -> Option<u16> {
         let [_, high, low, ..] = self.bytes.as_slice() else {
             return None;

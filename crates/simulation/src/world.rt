@@ -28,14 +28,6 @@ pub struct Simulation {
     pub(crate) traffic: Traffic,
 }
 
-fn numbers(heap: Global, count: u8) -> Result<Vec<u8>, Error> {
-    let mut list = Vec::new(heap);
-    for number in 0..count {
-        list.push(number)?;
-    }
-    Ok(list)
-}
-
 impl Simulation {
     // All machines compute the same first assignment.
     pub fn new(
@@ -45,7 +37,7 @@ impl Simulation {
         buckets: u32,
     ) -> Result<Simulation, Error> {
         let buckets = Buckets::new(buckets)?;
-        let list = numbers(heap, servers)?;
+        let list: Vec<u8> = (0..servers).collect(heap)?;
         let roster = Roster::new(heap, buckets.count() as usize, list.as_slice())?;
         let first = Vec::from_slice(heap, roster.assignment())?;
         let controller = Controller::new(heap, buckets, list.as_slice(), balancers)?;

@@ -10,7 +10,7 @@ use flow::key::{FlowKey, Protocol};
 use wire::message::Order;
 use wire_packet::number::Number;
 
-// Field by field, and not by FlowKey::try_from, since another protocol is told before bytes too many are.
+// Field by field, as the format lists them and the clause reads them: another protocol is told before bytes too many are.
 pub fn read_closed(bytes: &[u8]) -> Result<Order, Fault>
     ensures { located None result ≡ read_all closed 0 bytes.now }
 {

@@ -152,10 +152,9 @@ fn number(words: &mut SplitWhitespace<'_>) -> anyhow::Result<u32> {
 }
 
 fn link(words: &mut SplitWhitespace<'_>) -> anyhow::Result<Link> {
-    Ok(Link {
-        place: number(words)?,
-        server: u8::try_from(number(words)?)?,
-    })
+    let place = number(words)?;
+    let server = words.next().context("a server is missing")?.parse::<u8>()?;
+    Ok(Link { place, server })
 }
 
 fn read_command(words: &mut SplitWhitespace<'_>) -> anyhow::Result<Command> {

@@ -23,6 +23,8 @@ fn append(parts: &[&[u8]], out: &mut Vec<u8>) -> Result<(), AllocError>
     ensures { Appended result (together parts.now) out.old.items out.new.items }
 {
     let start = out.len();
+    // Room for all at once: few messages then make the list grow twice.
+    out.reserve(parts.iter().fold(0, |n, part| part.len().saturating_add(n)))?;
     for part in parts {
         if let Err(short) = out.extend_from_slice(part) {
             out.truncate(start);
@@ -92,7 +94,7 @@ fn write_order(order: Order, out: &mut Vec<u8>) -> Result<(), AllocError>
     }
 }
 
-// Who began to ask; no place if nobody did. A function, since a From would have to stand where Way and Link do.
+// Who began to ask; no place if nobody did. A function and no `From`: a way is no link, it only has one in its bytes.
 pub fn asker(way: Way) -> Link
     ensures { result ≡ asker_of way }
 {

@@ -33,9 +33,10 @@ impl Controller {
         ensures { Did (told from control (ruling self.old)) result (ruling self.old) (ruling self.new) (sent_of out.old) (sent_of out.new) }
     {
         let bucket = control.bucket();
-        let Some(charge) = self.charges.get_mut(usize::from(bucket)) else {
-            return Err(Error::Of(Fault::NoSuch));
-        };
+        let charge = self
+            .charges
+            .get_mut(usize::from(bucket))
+            .ok_or(Fault::NoSuch)?;
         let Control::Forgotten { place, .. } = control else {
             return Err(Error::Of(Fault::Malformed));
         };

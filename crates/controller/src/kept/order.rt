@@ -15,6 +15,7 @@ use machine::outbox::Outbox;
 use std::alloc::Global;
 
 // Each bucket whose newest place is not at its assigned server is handed over.
+// The index is cast: beside numbers of 16 bits (`zip`), the loop no longer names the slice that it changes.
 fn begin_all(charges: &mut [Bucket], assignment: &[u16], out: &mut Outbox)
     requires { (length charges.old ≡ length assignment.now) × ((length charges.old ≤ 65536) × ((length charges.old ≤ room_of out.old) × (Numbered (length assignment.now) assignment.now))) }
     ensures sent { sent_of out.new ≡ sent_of out.old ++ (begun_from 0 assignment.now (map charge charges.old)).0 }

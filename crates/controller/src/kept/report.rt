@@ -14,10 +14,10 @@ fn put_off(heap: Global, charges: &[Bucket]) -> Result<Vec<Waiting>, AllocError>
     ensures { IfOk result (λ v. v.items ≡ waiting_from 0 (map charge charges.now)) }
 {
     let mut waiting = Vec::new(heap);
-    for (b, charge) in charges.iter().enumerate() {
+    for (bucket, charge) in (0..=u16::MAX).zip(charges.iter()) {
         if charge.is_put_off() {
             waiting.push(Waiting {
-                bucket: b as u16,
+                bucket,
                 oldest: charge.oldest(),
             })?;
         }
@@ -40,7 +40,7 @@ impl Controller {
         self.parted[usize::from(server)] > 0 && self.is_parted(server)
     }
 
-    // The servers that left a chain, and that may be switched off.
+    // The servers that left a chain, and that may be switched off. By `filter` and `collect` it was tried: the proof did not close.
     pub fn leaving(&self, heap: Global) -> Result<Vec<u8>, AllocError>
         ensures { IfOk result (λ v. v.items ≡ leaving (ruling self.now)) }
     {

@@ -19,8 +19,8 @@ fn say_due(charges: &[Bucket], ticks: u32, out: &mut Outbox) -> Result<(), Alloc
     requires { length charges.now ≤ 65536 }
     ensures { MatchResult result (λ _. sent_of out.new ≡ sent_of out.old ++ due_from 0 ticks (map charge charges.now)) (λ _. take (length (sent_of out.old)) (sent_of out.new) ≡ sent_of out.old) }
 {
-    for (b, charge) in charges.iter().enumerate() {
-        charge.due(b as u16, ticks, out)?;
+    for (bucket, charge) in (0..=u16::MAX).zip(charges.iter()) {
+        charge.due(bucket, ticks, out)?;
     }
     Ok(())
 }
@@ -38,9 +38,7 @@ impl Controller {
     pub fn ticks(&mut self, count: u32, out: &mut Outbox) -> Result<(), Error>
         ensures { Ticking (ticked count (ruling self.old)) count result (ruling self.old) (ruling self.new) (sent_of out.old) (sent_of out.new) }
     {
-        let Some(clock) = self.clock.advanced(count) else {
-            return Err(Error::Of(Fault::NoSuch));
-        };
+        let clock = self.clock.advanced(count).ok_or(Fault::NoSuch)?;
         let before = out.sent().len();
         if say_due(self.charges.as_slice(), count, out).is_err() {
             out.truncate(before);

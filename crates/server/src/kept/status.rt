@@ -16,8 +16,8 @@ impl Server {
         ensures { IfOk result (λ v. v.items ≡ busy_from 0 (sessions_of self.now) (keeping self.now).holdings) }
     {
         let mut busy = Vec::new(heap);
-        for (i, bucket) in self.held.iter().enumerate() {
-            note_bucket(&self.sessions, i as u16, bucket.standing(), &mut busy)?;
+        for (number, bucket) in (0..=u16::MAX).zip(self.held.iter()) {
+            note_bucket(&self.sessions, number, bucket.standing(), &mut busy)?;
         }
         Ok(busy)
     }

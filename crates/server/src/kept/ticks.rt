@@ -18,9 +18,7 @@ impl Server {
     pub fn ticks(&mut self, heap: Global, count: u32, out: &mut Outbox) -> Result<(), Error>
         ensures { Elapses count result (keeping self.old) (keeping self.new) (sessions_of self.old) (sessions_of self.new) (sent_of out.old) (sent_of out.new) }
     {
-        let Some(clock) = self.clock.advanced(count) else {
-            return Err(Error::Of(Fault::NoSuch));
-        };
+        let clock = self.clock.advanced(count).ok_or(Fault::NoSuch)?;
         let names = self.sessions.idle_keys(heap, clock.now())?;
         let before = out.sent().len();
         if collect(self.held.as_slice(), count, names.len(), out).is_err() {
@@ -47,13 +45,15 @@ impl Server {
     }
 }
 
+// `collect` and `pass` are as the controller's over another type; a trait is no plainer: what a bucket keeps is private, and would be a ghost member of it.
+
 // What is due, and room for two messages for each session that is closed. Where there is no memory, what was there stays in front.
 fn collect(held: &[Bucket], ticks: u32, closed: usize, out: &mut Outbox) -> Result<(), AllocError>
     requires { (length held.now ≤ 65536) × (closed ≤ 65536) }
     ensures { MatchResult result (λ _. (sent_of out.new ≡ sent_of out.old ++ due_from 0 ticks (map holding held.now)) × (2 * closed ≤ room_of out.new)) (λ _. take (length (sent_of out.old)) (sent_of out.new) ≡ sent_of out.old) }
 {
-    for (i, bucket) in held.iter().enumerate() {
-        bucket.due(i as u16, ticks, out)?;
+    for (number, bucket) in (0..=u16::MAX).zip(held.iter()) {
+        bucket.due(number, ticks, out)?;
     }
     out.make_room(2 * closed)
 }

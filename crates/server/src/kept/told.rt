@@ -22,6 +22,7 @@ impl Server {
         ensures did { Did (told from control (keeping self.old) (sessions_of self.old)) result (keeping self.old) (keeping self.new) (sent_of out.old) (sent_of out.new) }
         ensures sessions { sessions_of self.new ≡ sessions_of self.old }
     {
+        // For its answer and the news of a forgotten place: made first, since a step that has begun comes to its end.
         out.make_room(3)?;
         let (place, gone) = self.change(control)?;
         self.leave(gone);

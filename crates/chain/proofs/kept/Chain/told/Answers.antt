@@ -1,5 +1,5 @@
 -- The array turned by one, with the new place in front.
-use Rattle.std.proofs.Common.{◌≡◌, length, set, sym, refl, ◌∙◌, arith, rules, length-set}
+use Rattle.std.proofs.Common.{◌≡◌, length, set, refl, ◌∙◌, arith, rules, length-set}
 use Rattle.chain.specs.Controllers.{newest_of}
 use Rattle.chain.proofs.Front.{told_elsewhere, told_another, told_done, told_falls, turned_front, awaits_room}
 use Rattle.chain.proofs.kept.Chain.told.Goals.{then-place-self-via-then-place-self, then-place-self-via-else-place-self+then-ne}

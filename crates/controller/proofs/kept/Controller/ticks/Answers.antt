@@ -16,6 +16,6 @@ pub returns : goal.returns
 returns c =
     let k = ruling c.args.self.now in
     let same = with_items_is c.args.self.now.charges c.pass.new.charges (omega (arith, c.as_mut_slice.ensures.len, c.pass.auto.charges)) in (
-      later_is k c.args.count _ _ (ap (map charge) same ∙ (c.pass.ensures ∙ ap (λ cs. map (bucket.passed c.args.count) (map charge cs)) c.as_mut_slice.ensures.value)) c.in-Some.ensures,
+      later_is k c.args.count _ _ (ap (map charge) same ∙ (c.pass.ensures ∙ ap (λ cs. map (bucket.passed c.args.count) (map charge cs)) c.as_mut_slice.ensures.value)) (rw c.in_ok-clock.ensures.ok_part at c.advanced.ensures),
       due_is k c.args.count (map charge c.as_slice.result.now) (sent_of c.args.out.now) _ (ap (map charge) c.as_slice.ensures.value) (due_done _ _ c.say_due.result c.if-is_err.ensures.value c.say_due.ensures),
     )
