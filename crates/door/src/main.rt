@@ -26,19 +26,19 @@ Then bytes come, in hex, one message to a line, with who hands them over, and wh
 A line that cannot be read is answered with its fault, and changes nothing.";
 
 #[derive(Drop)]
-struct Door {
+struct FedBalancer {
     balancer: Balancer,
 }
 
-impl Fed for Door {
+impl Fed for FedBalancer {
     const NAME: &'static str = "door";
 
     const HELP: &'static str = HELP;
 
-    fn begin(heap: Global, settings: &Settings) -> Result<Door, Error> {
+    fn begin(heap: Global, settings: &Settings) -> Result<FedBalancer, Error> {
         let (buckets, roster) = assign(heap, settings)?;
         let balancer = Balancer::new(heap, buckets, roster.assignment())?;
-        Ok(Door { balancer })
+        Ok(FedBalancer { balancer })
     }
 
     fn hear<'a>(
@@ -54,5 +54,5 @@ impl Fed for Door {
 }
 
 fn main(rt: HostRuntime) -> anyhow::Result<()> {
-    run::<Door>(&rt)
+    run::<FedBalancer>(&rt)
 }

@@ -2,11 +2,11 @@
 #![tactic(auto)]
 
 mod bytes;
-mod houses;
+mod servers;
 mod text;
 
 use crate::bytes::Bytes;
-use crate::houses::Houses;
+use crate::servers::Servers;
 use crate::text::{EventText, MessageText};
 use anyhow::anyhow;
 use fault::Error;
@@ -42,7 +42,7 @@ A bad line is answered with its number and the fault, and changes nothing.";
 #[derive(Drop)]
 struct Player {
     stage: Stage,
-    houses: Houses,
+    servers: Servers,
     bytes: Bytes,
 }
 
@@ -70,14 +70,14 @@ impl Player {
     }
 
     // A command about the assignment of all buckets.
-    fn play_houses(
+    fn play_servers(
         &mut self,
         rt: &HostRuntime,
         number: u64,
         command: Command,
         line: &str,
     ) -> anyhow::Result<()> {
-        match self.houses.play(rt.alloc(), command, line) {
+        match self.servers.play(rt.alloc(), command, line) {
             Ok(change) => change.print(rt),
             Err(error) => answer(rt, number, error),
         }
@@ -121,7 +121,7 @@ impl Player {
                 | Command::Remove { .. }),
             ) => {
                 println!(rt; "> {line}")?;
-                self.play_houses(rt, number, command, line)
+                self.play_servers(rt, number, command, line)
             }
             Ok(command) => {
                 println!(rt; "> {line}")?;
@@ -141,7 +141,7 @@ fn play(rt: &HostRuntime) -> anyhow::Result<()> {
     };
     let mut player = Player {
         stage,
-        houses: Houses::new(),
+        servers: Servers::new(),
         bytes: Bytes::new(),
     };
     for (number, line) in (1..u64::MAX).zip(rt.lines(rt.alloc())) {

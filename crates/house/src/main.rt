@@ -31,21 +31,21 @@ A line that cannot be read is answered with its fault, and changes nothing.";
 const HEAD: usize = 16;
 
 #[derive(Drop)]
-struct House {
+struct FedServer {
     server: Server,
 }
 
-impl Fed for House {
+impl Fed for FedServer {
     const NAME: &'static str = "house";
 
     const HELP: &'static str = HELP;
 
-    fn begin(heap: Global, settings: &Settings) -> Result<House, Error> {
+    fn begin(heap: Global, settings: &Settings) -> Result<FedServer, Error> {
         let number = settings.server.ok_or(Fault::Malformed)?;
         let number = u8::try_from(number).map_err(|_| Fault::NoSuch)?;
         let (buckets, roster) = assign(heap, settings)?;
         let server = Server::new(heap, number, buckets, roster.assignment())?;
-        Ok(House { server })
+        Ok(FedServer { server })
     }
 
     // A packet that was delivered, or that opened its session, is given as the session gets it.
@@ -71,5 +71,5 @@ impl Fed for House {
 }
 
 fn main(rt: HostRuntime) -> anyhow::Result<()> {
-    run::<House>(&rt)
+    run::<FedServer>(&rt)
 }

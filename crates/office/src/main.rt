@@ -26,20 +26,20 @@ Then bytes come, in hex, one message to a line, with who hands them over, and wh
 A line that cannot be read is answered with its fault, and changes nothing.";
 
 #[derive(Drop)]
-struct Office {
+struct FedController {
     controller: Controller,
 }
 
-impl Fed for Office {
+impl Fed for FedController {
     const NAME: &'static str = "office";
 
     const HELP: &'static str = HELP;
 
-    fn begin(heap: Global, settings: &Settings) -> Result<Office, Error> {
+    fn begin(heap: Global, settings: &Settings) -> Result<FedController, Error> {
         let buckets = buckets(settings)?;
         let balancers = u16::try_from(settings.balancers.unwrap_or(0)).map_err(|_| Fault::NoSuch)?;
         let controller = Controller::new(heap, buckets, settings.servers.as_slice(), balancers)?;
-        Ok(Office { controller })
+        Ok(FedController { controller })
     }
 
     fn hear<'a>(
@@ -60,5 +60,5 @@ impl Fed for Office {
 }
 
 fn main(rt: HostRuntime) -> anyhow::Result<()> {
-    run::<Office>(&rt)
+    run::<FedController>(&rt)
 }

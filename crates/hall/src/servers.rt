@@ -1,4 +1,4 @@
-// The houses that have all buckets, as the script lists them.
+// The servers that have all buckets, as the script lists them.
 use assignment::counts::counts;
 use assignment::moves::{Move, moves};
 use fault::{Error, Fault};
@@ -11,15 +11,15 @@ use std::alloc::Global;
 const BUCKETS: usize = 4096;
 
 #[derive(Drop)]
-pub struct Houses {
+pub struct Servers {
     buckets: usize,
-    // None as long as no house is listed.
+    // None as long as no server is listed.
     roster: Option<Roster>,
 }
 
-impl Houses {
-    pub fn new() -> Houses {
-        Houses {
+impl Servers {
+    pub fn new() -> Servers {
+        Servers {
             buckets: BUCKETS,
             roster: None,
         }
