@@ -56,6 +56,33 @@ pub count_le : (s : ℕ) (xs : List ℕ) → count s xs ≤ length xs
 count_le s [] = omega arith
 count_le s (x ∷ xs) = omega (arith, one_le (eqb s x), count_le s xs)
 
+-- below 256 there are at most 256
+pub rises_length : (n : ℕ) (ss : List ℕ) → rises_from n ss ≡ true → ((i : ℕ) → get_or ss i 0 < 256) → n ≤ 256 → n + length ss ≤ 256
+rises_length n [] r low l = omega arith
+rises_length n (s ∷ ss) r low l =
+    let p = and_parts (leb n s) (rises_from (suc s) ss) r in
+    let a = leb-true n s p.0 in
+    let b : s < 256 = low 0 in
+    omega (arith, rises_length (suc s) ss p.1 (λ i. low (suc i)) (omega arith))
+
+-- where a server can stand: at most at its number, and at least there less the numbers that are left out
+pub place_most : (n : ℕ) (ss : List ℕ) (i : ℕ) → rises_from n ss ≡ true → i < length ss → n + i ≤ get_or ss i 0
+place_most n [] i r h = absurd (omega arith)
+place_most n (s ∷ ss) zero r h = omega (arith, leb-true n s (and_parts (leb n s) (rises_from (suc s) ss) r).0)
+place_most n (s ∷ ss) (suc i) r h =
+    let p = and_parts (leb n s) (rises_from (suc s) ss) r in
+    omega (arith, leb-true n s p.0, place_most (suc s) ss i p.1 (omega arith))
+
+pub place_least : (n : ℕ) (ss : List ℕ) (i : ℕ) → rises_from n ss ≡ true → ((k : ℕ) → get_or ss k 0 < 256) → i < length ss → get_or ss i 0 + length ss ≤ i + 256
+place_least n [] i r low h = absurd (omega arith)
+place_least n (s ∷ ss) zero r low h =
+    let p = and_parts (leb n s) (rises_from (suc s) ss) r in
+    let b : s < 256 = low 0 in
+    omega (arith, rises_length (suc s) ss p.1 (λ k. low (suc k)) (omega arith))
+place_least n (s ∷ ss) (suc i) r low h =
+    let p = and_parts (leb n s) (rises_from (suc s) ss) r in
+    omega (arith, place_least (suc s) ss i p.1 (λ k. low (suc k)) (omega arith))
+
 -- a list rises where each number is below the next, and only there
 rises_next : (n : ℕ) (ss : List ℕ) (i : ℕ) → rises_from n ss ≡ true → suc i < length ss → get_or ss i 0 < get_or ss (suc i) 0
 rises_next n [] i r h = absurd (omega arith)

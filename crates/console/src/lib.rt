@@ -44,7 +44,7 @@ impl fmt::Display for FaultText {
 }
 
 // Is the program only asked what it is? Then that is printed.
-fn is_asked(rt: &HostRuntime, name: &str, help: &str) -> anyhow::Result<bool> {
+pub fn is_asked(rt: &HostRuntime, name: &str, help: &str) -> anyhow::Result<bool> {
     for arg in env::args(rt)?.skip(1) {
         match arg.as_str() {
             "--help" => {
@@ -62,7 +62,7 @@ fn is_asked(rt: &HostRuntime, name: &str, help: &str) -> anyhow::Result<bool> {
 }
 
 // What ends the program.
-fn stop(heap: Global, line: u64, error: Error) -> anyhow::Error {
+pub fn stop(heap: Global, line: u64, error: Error) -> anyhow::Error {
     match error {
         Error::Of(fault) => match format!(in heap; "{}", FaultText { line, fault }) {
             Ok(text) => anyhow!(text),
@@ -73,7 +73,7 @@ fn stop(heap: Global, line: u64, error: Error) -> anyhow::Error {
 }
 
 // Faults are answered, want of memory ends the program. The programs that play scripts have their own, with blanks in front.
-fn answer(rt: &HostRuntime, line: u64, error: Error) -> anyhow::Result<()> {
+pub fn answer(rt: &HostRuntime, line: u64, error: Error) -> anyhow::Result<()> {
     match error {
         Error::Of(fault) => {
             println!(rt; "{}", FaultText { line, fault })?;
@@ -105,7 +105,7 @@ fn print_line(rt: &HostRuntime, mut text: Vec<u8>) -> anyhow::Result<()> {
 }
 
 // What was posted, one message to a line.
-fn print(rt: &HostRuntime, post: &Post) -> anyhow::Result<()> {
+pub fn print(rt: &HostRuntime, post: &Post) -> anyhow::Result<()> {
     for posted in post.posted() {
         let text = line_text(rt.alloc(), posted.to, posted.bytes.as_slice())?;
         print_line(rt, text)?;
@@ -114,7 +114,7 @@ fn print(rt: &HostRuntime, post: &Post) -> anyhow::Result<()> {
 }
 
 // A packet that is given to its session.
-fn print_packet(rt: &HostRuntime, packet: &[u8]) -> anyhow::Result<()> {
+pub fn print_packet(rt: &HostRuntime, packet: &[u8]) -> anyhow::Result<()> {
     let text = packet_text(rt.alloc(), packet)?;
     print_line(rt, text)
 }

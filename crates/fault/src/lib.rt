@@ -53,10 +53,10 @@ impl From<Fault> for u8 {
     }
 }
 
-// A few words for people.
-impl fmt::Display for Fault {
-    fn fmt<W: fmt::Write>(&self, f: &mut fmt::Formatter<W>) -> fmt::Result {
-        f.write_str(match self {
+impl Fault {
+    // A few words for people.
+    pub fn text(self) -> &'static str {
+        match self {
             Fault::Malformed => "unknown kind or bad length",
             Fault::NoSuch => "no such bucket, house or way",
             Fault::BadPacket => "not a packet of IPv4 with TCP or UDP",
@@ -67,7 +67,13 @@ impl fmt::Display for Fault {
             Fault::Contradiction => "contradicts an earlier message",
             Fault::NoServer => "no house is left",
             Fault::ChainFull => "nine places: the change of hands is put off",
-        })
+        }
+    }
+}
+
+impl fmt::Display for Fault {
+    fn fmt<W: fmt::Write>(&self, f: &mut fmt::Formatter<W>) -> fmt::Result {
+        f.write_str(self.text())
     }
 }
 
