@@ -1,21 +1,10 @@
-// Bytes in hex, two digits each.
-ghost use Rattle.std.specs.Prelude.{◌≡◌, ◌<◌, [], ◌++◌, ok_or, IfOk, OnOk};
-ghost use Rattle.std.specs.String.{string_bytes};
+// Bytes read from hex, two digits each.
+ghost use Rattle.std.specs.Prelude.{◌≡◌, ◌<◌, [], ok_or, IfOk};
 ghost use Rattle.fault.specs.declared.Fault.TheVariants.{Malformed};
-ghost use Rattle.lines.specs.Lines.{hex_digit, byte_in, bytes_from, hex_text, Reads};
+ghost use Rattle.lines.specs.Lines.{hex_digit, byte_in, bytes_from, Reads};
 
 use fault::{Error, Fault};
-use std::alloc::{AllocError, Global};
-use std::fmt::Write;
-
-pub fn push_hex(bytes: &[u8], out: &mut String) -> Result<(), AllocError>
-    ensures { OnOk result (string_bytes out.new ≡ string_bytes out.old ++ hex_text bytes.now) }
-{
-    for byte in bytes {
-        write!(out, "{byte:02x}")?;
-    }
-    Ok(())
-}
+use std::alloc::Global;
 
 // Read here and not by the library `hex`, since an edit that reads another digit has to be refused.
 fn digit(c: u8) -> Result<u8, Fault>

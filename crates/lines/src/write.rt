@@ -1,24 +1,42 @@
 // A line written: the machine that gets the bytes, and the bytes.
-ghost use Rattle.std.specs.Prelude.{◌≡◌, IfOk};
-ghost use Rattle.lines.specs.Lines.{line_text, packet_text};
+ghost use Rattle.std.specs.Prelude.{◌≡◌, ◌<◌, ◌++◌, IfOk, OnOk};
+ghost use Rattle.lines.specs.Lines.{hex_of, hex_text, line_text, packet_text};
 
-use crate::hex::push_hex;
 use machine::name::Machine;
 use std::alloc::{AllocError, Global};
+
+// The digit of a number below 16.
+fn hex_digit(d: u8) -> u8
+    requires { d < 16 }
+    ensures { result ≡ hex_of d }
+{
+    if d < 10 { b'0' + d } else { b'a' + d - 10 }
+}
+
+// Both digits at once, and not by `write!`: most of the time of a line goes here.
+fn push_hex(bytes: &[u8], out: &mut Vec<u8>) -> Result<(), AllocError>
+    ensures { OnOk result (out.new.items ≡ out.old.items ++ hex_text bytes.now) }
+{
+    out.reserve(bytes.len() * 2)?;
+    for byte in bytes {
+        out.extend_from_slice(&[hex_digit(*byte / 16), hex_digit(*byte % 16)])?;
+    }
+    Ok(())
+}
 
 pub fn line_text(heap: Global, machine: Machine, bytes: &[u8]) -> Result<Vec<u8>, AllocError>
     ensures { IfOk result (λ v. v.items ≡ line_text machine bytes.now) }
 {
-    let mut text = format!(in heap; "{machine} ")?;
+    let mut text = format!(in heap; "{machine} ")?.into_bytes();
     push_hex(bytes, &mut text)?;
-    Ok(text.into_bytes())
+    Ok(text)
 }
 
 // A packet that is given to its session.
 pub fn packet_text(heap: Global, packet: &[u8]) -> Result<Vec<u8>, AllocError>
     ensures { IfOk result (λ v. v.items ≡ packet_text packet.now) }
 {
-    let mut text = String::from_str(heap, "table ")?;
+    let mut text = Vec::from_slice(heap, b"table ")?;
     push_hex(packet, &mut text)?;
-    Ok(text.into_bytes())
+    Ok(text)
 }
