@@ -165,6 +165,16 @@ told_of from c (control.Forgotten b n a) k es =
 abbrev pub told : Machine → Control → Keeping → List session.Entry → Result (List Sent × Keeping) Fault
 told from c k es = cond (is_bucket (bucket_in c) k) (told_of from c c k es) (Err NoSuch)
 
+abbrev pub room_in : Control → Keeping → Result ℕ Fault
+room_in (control.Stand b n before) k = Ok 1
+room_in (control.Behind b n a) k = Ok 3
+room_in (control.Door b l) k = Err Malformed
+room_in (control.Forgotten b n a) k = cond (a.server == k.number) (Ok 3) (Err UnknownPlace)
+
+-- for how many messages room is made before anything changes; a refusal that needs no look at a bucket comes first, and takes no memory
+abbrev pub room_for : Control → Keeping → Result ℕ Fault
+room_for c k = cond (is_bucket (bucket_in c) k) (room_in c k) (Err NoSuch)
+
 abbrev pub heard_of : Machine → Control → Keeping → Keeping
 heard_of from (control.Stand b n before) k = k
 heard_of from (control.Behind b n a) k = k

@@ -60,9 +60,9 @@ fn put_if(awaited: bool, sent: Sent, out: &mut Outbox)
     }
 }
 
-// When a place is forgotten, with the place after it; room was made for two.
+// When a place is forgotten, with the place after it; room was made for what is told.
 pub fn tell(bucket: u16, place: u32, gone: Option<Link>, out: &mut Outbox)
-    requires { 2 ≤ room_of out.old }
+    requires { length (tells bucket place gone) ≤ room_of out.old }
     ensures items { sent_of out.new ≡ sent_of out.old ++ tells bucket place gone }
     ensures room { room_of out.old ≤ room_of out.new + 2 }
 {

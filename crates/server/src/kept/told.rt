@@ -4,7 +4,7 @@ ghost use Rattle.sessions.specs.Model.{entries_of};
 ghost use Rattle.machine.specs.Outboxes.{sent_of};
 ghost use Rattle.machine.specs.Steps.{Did};
 ghost use Rattle.server.specs.Kept.{keeping, sessions_of, left, Alters};
-ghost use Rattle.server.specs.Rules.{told, heard, is_empty};
+ghost use Rattle.server.specs.Rules.{told, room_for, heard, is_empty};
 
 use super::Server;
 use chain::way::Link;
@@ -22,8 +22,8 @@ impl Server {
         ensures did { Did (told from control (keeping self.old) (sessions_of self.old)) result (keeping self.old) (keeping self.new) (sent_of out.old) (sent_of out.new) }
         ensures sessions { sessions_of self.new ≡ sessions_of self.old }
     {
-        // For its answer and the news of a forgotten place: made first, since a step that has begun comes to its end.
-        out.make_room(3)?;
+        // Room is made first, since a step that has begun comes to its end.
+        out.make_room(self.room_for(control)?)?;
         let (place, gone) = self.change(control)?;
         self.leave(gone);
         out.put(Sent {
@@ -32,6 +32,23 @@ impl Server {
         });
         tell(control.bucket(), place, gone, out);
         Ok(())
+    }
+
+    // How many messages it may send. What is refused without a look at a bucket is refused here, where it takes no memory.
+    fn room_for(&self, control: Control) -> Result<usize, Fault>
+        ensures { result ≡ room_for control (keeping self.now) }
+    {
+        if usize::from(control.bucket()) >= self.held.len() {
+            return Err(Fault::NoSuch);
+        }
+        match control {
+            Control::Stand { .. } => Ok(1),
+            // The answer, and the news of a forgotten place to two machines.
+            Control::Behind { .. } => Ok(3),
+            Control::Door { .. } => Err(Fault::Malformed),
+            Control::Forgotten { after, .. } if after.server == self.number => Ok(3),
+            Control::Forgotten { .. } => Err(Fault::UnknownPlace),
+        }
     }
 
     // What a message changes: the place that may be forgotten by it, and if it is, the place after it.
