@@ -3,6 +3,6 @@
 
 pub mod kept;
 pub mod laws;
-mod list;
+pub mod list;
 mod number;
 pub mod take;
