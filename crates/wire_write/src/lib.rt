@@ -38,16 +38,23 @@ fn append(parts: &[&[u8]], out: &mut Vec<u8>) -> Result<(), AllocError>
 fn write_neighbour(kind: u8, at: At, neighbour: Link, out: &mut Vec<u8>) -> Result<(), AllocError>
     ensures { Appended result (kind ∷ put stand.fields (at.bucket ∷ at.place ∷ neighbour.place ∷ neighbour.server ∷ [])) out.old.items out.new.items }
 {
-    append(
-        &[
-            &[kind],
-            &at.bucket.to_be_bytes(),
-            &at.place.to_be_bytes(),
-            &neighbour.place.to_be_bytes(),
-            &[neighbour.server],
-        ],
-        out,
-    )
+    let [b0, b1] = at.bucket.to_be_bytes();
+    let [p0, p1, p2, p3] = at.place.to_be_bytes();
+    let [q0, q1, q2, q3] = neighbour.place.to_be_bytes();
+    out.extend_from_slice(&[
+        kind,
+        b0,
+        b1,
+        p0,
+        p1,
+        p2,
+        p3,
+        q0,
+        q1,
+        q2,
+        q3,
+        neighbour.server,
+    ])
 }
 
 // A message about places, by the kind that it has as such or as an answer.
@@ -71,15 +78,11 @@ fn write_control(kind: Kind, control: Control, out: &mut Vec<u8>) -> Result<(), 
             place,
             after,
         } => write_neighbour(kind, At { bucket, place }, after, out),
-        Control::Door { bucket, newest } => append(
-            &[
-                &[kind],
-                &bucket.to_be_bytes(),
-                &newest.place.to_be_bytes(),
-                &[newest.server],
-            ],
-            out,
-        ),
+        Control::Door { bucket, newest } => {
+            let [b0, b1] = bucket.to_be_bytes();
+            let [p0, p1, p2, p3] = newest.place.to_be_bytes();
+            out.extend_from_slice(&[kind, b0, b1, p0, p1, p2, p3, newest.server])
+        }
     }
 }
 
@@ -88,9 +91,12 @@ fn write_order(order: Order, out: &mut Vec<u8>) -> Result<(), AllocError>
 {
     match order {
         Order::Closed(flow) => append(&[&[u8::from(Kind::Closed)], &<[u8; 13]>::from(flow)], out),
-        Order::Added(server) => append(&[&[u8::from(Kind::Added), server]], out),
-        Order::Removed(server) => append(&[&[u8::from(Kind::Removed), server]], out),
-        Order::Ticks(count) => append(&[&[u8::from(Kind::Ticks)], &count.to_be_bytes()], out),
+        Order::Added(server) => out.extend_from_slice(&[u8::from(Kind::Added), server]),
+        Order::Removed(server) => out.extend_from_slice(&[u8::from(Kind::Removed), server]),
+        Order::Ticks(count) => {
+            let [c0, c1, c2, c3] = count.to_be_bytes();
+            out.extend_from_slice(&[u8::from(Kind::Ticks), c0, c1, c2, c3])
+        }
     }
 }
 
@@ -117,36 +123,39 @@ fn length_field(inside: &[u8]) -> Result<[u8; 2], Fault>
 fn write_packet(head: Head, inside: &[u8], out: &mut Vec<u8>) -> Result<(), Error>
     ensures { Written inside.now (1 ∷ (put packet.fields (head_values head (length inside.now)) ++ inside.now)) result out.old.items out.new.items }
 {
-    let length = length_field(inside)?;
+    let [l0, l1] = length_field(inside)?;
+    let [b0, b1] = head.bucket.to_be_bytes();
+    let [p0, p1, p2, p3] = head.place.to_be_bytes();
     let asker = asker(head.way);
-    append(
-        &[
-            &[u8::from(Kind::Packet)],
-            &head.bucket.to_be_bytes(),
-            &head.place.to_be_bytes(),
-            &[u8::from(head.way)],
-            &asker.place.to_be_bytes(),
-            &[asker.server, u8::from(head.opens)],
-            &length,
-            inside,
-        ],
-        out,
-    )?;
+    let [a0, a1, a2, a3] = asker.place.to_be_bytes();
+    let front = [
+        u8::from(Kind::Packet),
+        b0,
+        b1,
+        p0,
+        p1,
+        p2,
+        p3,
+        u8::from(head.way),
+        a0,
+        a1,
+        a2,
+        a3,
+        asker.server,
+        u8::from(head.opens),
+        l0,
+        l1,
+    ];
+    append(&[&front, inside], out)?;
     Ok(())
 }
 
 fn write_refused(refusal: Refusal, inside: &[u8], out: &mut Vec<u8>) -> Result<(), Error>
     ensures { Written inside.now (encode (Back refusal inside.now)) result out.old.items out.new.items }
 {
-    let length = length_field(inside)?;
-    append(
-        &[
-            &[u8::from(Kind::Refused), u8::from(refusal)],
-            &length,
-            inside,
-        ],
-        out,
-    )?;
+    let [l0, l1] = length_field(inside)?;
+    let front = [u8::from(Kind::Refused), u8::from(refusal), l0, l1];
+    append(&[&front, inside], out)?;
     Ok(())
 }
 
