@@ -23,7 +23,7 @@ ruling c = record {
   charges = map charge (vec_items c.charges);
   balancers = c.balancers;
   tick = ticks_of c.clock;
-  parted = c.parted;
+  parted = vec_items c.parted;
 }
 
 -- of n buckets, the servers ss and so many balancers: the controller at its start, or the refusal that the assignment's rule gives

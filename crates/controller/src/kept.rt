@@ -26,8 +26,9 @@ pub struct Controller {
     // Balancers have the numbers below this.
     balancers: u16,
     clock: Clock,
-    // For each server the tick at which it last left a chain. Servers are numbered from 0 to 255.
-    parted: [u64; 256],
+    // For each server the tick at which it last left a chain. On the heap: an array here would go along wherever the controller moves.
+    parted: Vec<u64>,
     ghost one_each: { vec_len charges ≡ buckets.count },
+    ghost each_server: { vec_len parted ≡ 256 },
     ghost numbered: { Numbered buckets.count (assignment_of roster) },
 }

@@ -1,8 +1,6 @@
 // What one server knows of the places of one bucket, and what each message about them does.
-ghost use Rattle.std.specs.Prelude.{◌≡◌, ◌<◌};
+ghost use Rattle.std.specs.Prelude.{◌≡◌, ◌<◌, ◌≤◌};
 ghost use Rattle.arrayvec.specs.ArrayVec.{array_vec_len};
-ghost use Rattle.places.specs.Rules.{nowhere, first_of, find, stand, behind, freed, retire, stood_with};
-ghost use Rattle.places.specs.Kept.{known};
 
 use crate::newest::put_newest;
 use crate::search::{find_in, oldest_in, replace_in};
@@ -25,9 +23,15 @@ pub struct Places {
     highest: u32,
     standing: ArrayVec<Place, MOST>,
     past: ArrayVec<Place, MOST_PAST>,
+    ghost few: { array_vec_len standing ≤ 8 },
+    ghost past_few: { array_vec_len past ≤ 16 },
 }
 
 impl Places {
+    // Here and not at the head of the file, whose imports the ghost fields take over.
+    ghost use Rattle.places.specs.Rules.{nowhere, first_of, find, stand, behind, freed, retire, stood_with};
+    ghost use Rattle.places.specs.Kept.{known};
+
     // A server that never had the bucket.
     pub fn new() -> Places
         ensures { known result ≡ nowhere }

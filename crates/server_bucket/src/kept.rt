@@ -1,9 +1,8 @@
 // What one server keeps of one bucket, and what each message about it does.
-ghost use Rattle.std.specs.Prelude.{◌≡◌, ◌&&◌, ◌++◌, length, MatchResult, ◌==◌};
+ghost use Rattle.std.specs.Prelude.{◌≡◌, ◌≤◌, ◌&&◌, ◌++◌, length, MatchResult, ◌==◌};
+ghost use Rattle.arrayvec.specs.ArrayVec.{array_vec_len};
 ghost use Rattle.places.specs.Rules.{find};
 ghost use Rattle.machine.specs.Outboxes.{sent_of};
-ghost use Rattle.server_bucket.specs.Rules.{unheld, held_first, emptied, stand, behind, freed, answered, due, passed};
-ghost use Rattle.server_bucket.specs.Kept.{holding};
 
 use crate::farewell::Farewell;
 use crate::say::say_due;
@@ -26,9 +25,14 @@ pub struct Bucket {
     places: Places,
     // The newest first. An array of fixed length with the count of those that are used: it lies in the struct and never on the heap.
     farewells: ArrayVec<Farewell, MOST>,
+    ghost few: { array_vec_len farewells ≤ 16 },
 }
 
 impl Bucket {
+    // Here and not at the head of the file, whose imports the ghost field takes over.
+    ghost use Rattle.server_bucket.specs.Rules.{unheld, held_first, emptied, stand, behind, freed, answered, due, passed};
+    ghost use Rattle.server_bucket.specs.Kept.{holding};
+
     // A bucket that this server never had.
     pub fn new() -> Bucket
         ensures { holding result ≡ unheld }

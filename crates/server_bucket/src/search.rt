@@ -1,5 +1,6 @@
 // Farewells in a list.
-ghost use Rattle.std.specs.Prelude.{◌≡◌, ◌&&◌, ◌||◌, map, position, ◌==◌};
+ghost use Rattle.std.specs.Prelude.{◌≡◌, ◌≤◌, ◌&&◌, ◌||◌, map, position, ◌==◌};
+ghost use Rattle.arrayvec.specs.ArrayVec.{array_vec_len};
 ghost use Rattle.chain.specs.Ways.{same_link};
 ghost use Rattle.server_bucket.specs.Rules.{less_awaited, answered_in, older};
 
@@ -68,7 +69,8 @@ pub fn answered_in<const N: usize>(
     after: Link,
     by: Machine,
 )
-    ensures { farewells.new.items ≡ answered_in place after by farewells.old.items }
+    ensures items { farewells.new.items ≡ answered_in place after by farewells.old.items }
+    ensures no_more { array_vec_len farewells.new ≤ array_vec_len farewells.old }
 {
     let Some(i) = position_of(farewells, place, after) else {
         return;

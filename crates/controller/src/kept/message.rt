@@ -1,5 +1,5 @@
 // What the controller is told: a place is forgotten.
-ghost use Rattle.std.specs.Prelude.{◌≡◌};
+ghost use Rattle.std.specs.Prelude.{◌≡◌, length};
 ghost use Rattle.machine.specs.Outboxes.{sent_of};
 ghost use Rattle.machine.specs.Steps.{Did};
 ghost use Rattle.controller.specs.Rules.{parted_at, told};
@@ -15,7 +15,8 @@ use machine::sent::{Note, Sent};
 use wire::message::Control;
 
 // The servers of the places up to this one left a chain at the tick.
-fn part(parted: &mut [u64; 256], links: &[Link], place: u32, tick: u64)
+fn part(parted: &mut [u64], links: &[Link], place: u32, tick: u64)
+    requires { length parted.old ≡ 256 }
     ensures { parted.new ≡ parted_at tick place links.now parted.old }
 {
     for link in links {
@@ -44,7 +45,12 @@ impl Controller {
             return Ok(());
         }
         out.make_room(2)?;
-        part(&mut self.parted, charge.links(), place, self.clock.now());
+        part(
+            self.parted.as_mut_slice(),
+            charge.links(),
+            place,
+            self.clock.now(),
+        );
         out.put(Sent {
             to: from,
             note: Note::Answer(control),

@@ -13,6 +13,9 @@ use roster::roster::Roster;
 use sessions::clock::Clock;
 use std::alloc::{AllocError, Global};
 
+// Servers are numbered from 0 to 255.
+const SERVERS: usize = 256;
+
 // The server of a bucket, by its number. An assignment is lent as it is kept, as 16-bit numbers: that each is a server's
 // stands in a clause, and once in the controller's own fields.
 pub(crate) fn server_at(assignment: &[u16], bucket: u16) -> u8
@@ -46,13 +49,15 @@ impl Controller {
     {
         let roster = Roster::new(heap, buckets.count() as usize, servers)?;
         let charges = first_charges(heap, roster.assignment())?;
+        let mut parted = Vec::new(heap);
+        parted.resize(SERVERS, 0u64)?;
         Ok(Controller {
             buckets,
             roster,
             charges,
             balancers,
             clock: Clock::new(),
-            parted: [0; 256],
+            parted,
         })
     }
 }

@@ -7,6 +7,7 @@ ghost use Rattle.server.specs.Start.{Begins};
 
 use super::Server;
 use balancer::start::are_servers;
+use chain::way::Link;
 use fault::{Error, Fault};
 use flow::buckets::Buckets;
 use server_bucket::kept::Bucket;
@@ -45,17 +46,23 @@ fn first_held(heap: Global, number: u8, assignment: &[u16]) -> Result<Vec<Bucket
 {
     let mut held = Vec::new(heap);
     for server in assignment {
-        held.push(first(number, *server))?;
+        let last = held.len();
+        held.push(Bucket::new())?;
+        first(&mut held[last], number, *server);
     }
     Ok(held)
 }
 
-fn first(number: u8, server: u16) -> Bucket
-    ensures { holding result ≡ (if nat_eq server number then held_first number else unheld) }
+// Told to stand where it lies: of a `Bucket::first` that is pushed, the compiler makes a copy on the stack.
+fn first(bucket: &mut Bucket, number: u8, server: u16)
+    requires { holding bucket.old ≡ unheld }
+    ensures { holding bucket.new ≡ (if nat_eq server number then held_first number else unheld) }
 {
     if server == u16::from(number) {
-        Bucket::first(number)
-    } else {
-        Bucket::new()
+        let link = Link {
+            place: 1,
+            server: number,
+        };
+        let _ = bucket.stand(link, None);
     }
 }

@@ -12,5 +12,6 @@ invariant_of-result c =
     let e = ap length c.in_ok-charges.ensures in
     record {
       one_each = omega (arith, v.ok.0, e, length-map (vec_items v) charge, length-map c.assignment.result.now charge_first, ap length c.assignment.ensures, r.numbered.0, c.count.ensures);
+      each_server = c.in_ok-resize.ensures.len;
       numbered = (omega (arith, r.numbered.0, c.count.ensures), r.numbered.1);
     }

@@ -1,6 +1,6 @@
 -- Forgotten: answered and obeyed.
 use Rattle.std.proofs.Common.{◌<◌, [], ◌∷◌, ◌++◌, length, vec_items, sym, refl, ap, ◌∙◌, subst, arith}
-use Rattle.std.proofs.lemmas.List.{length-map}
+use Rattle.std.proofs.lemmas.List.{length-map, with_items_is}
 use Rattle.std.proofs.lemmas.Bool.{ltb-true}
 use Rattle.wire.specs.declared.message.Control.TheVariants.{Forgotten}
 use Rattle.wire.specs.Controls.{bucket_in}
@@ -32,7 +32,8 @@ returns c =
     let f = forgets_some c.args.from c' b place k c.server_at-assigned.result (charge c.in_ok-charge.charge.now) (charge c.forgotten.new.self) c.newest.result c.forgotten.result
     (sent_of c.args.out.now) (sent_of c.put.new.self) (sent_of c.forgotten.new.out) s ch l c.if-place-newest.false
     (subst (λ n. Answers (forgotten n c.server_at-assigned.result place (charge c.in_ok-charge.charge.now)) c.forgotten.result (charge c.in_ok-charge.charge.now) (charge c.forgotten.new.self) (sent_of c.put.new.self) (sent_of c.forgotten.new.out)) said c.forgotten.ensures) w in
-    let p = parted_is b place k c.now.result c.links.result.now c.args.self.now.parted _ (charge c.in_ok-charge.charge.now) c.now.ensures c.links.ensures ch refl c.part.ensures in
+    let same = with_items_is c.args.self.now.parted c.part.new.parted (omega (arith, c.as_mut_slice.ensures.len, c.part.auto.parted)) in
+    let p = parted_is b place k c.now.result c.links.result.now c.as_mut_slice.result.now _ (charge c.in_ok-charge.charge.now) c.now.ensures c.links.ensures ch c.as_mut_slice.ensures.value (same ∙ c.part.ensures) in
     let r = ruled cs c.from.result b c.in_ok-charge.charge.now c.forgotten.new.self (charge_first 0) (λ _. charge c.forgotten.new.self) is here at.1 refl in
     forgotten_told c.args.from c.args.control b place c.in-Forgotten.after k _ (sent_of c.args.out.now) (sent_of c.forgotten.new.out) _ c.in-Forgotten.is
     (omega (arith, length-map cs charge, here)) (both k _ _ _ _ r p ∙ f.0, f.1)
