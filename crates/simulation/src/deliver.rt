@@ -57,18 +57,22 @@ impl Simulation {
     // Of what is on its way only each so-many-th letter stays.
     pub fn thin(&mut self, keep: u32) -> Result<(), Error> {
         self.traffic.seen.clear();
-        if keep == 0 {
-            return Err(Error::Of(Fault::NoSuch));
-        }
-        let letters = mem::replace(&mut self.traffic.letters, Vec::new(self.heap));
-        for (i, letter) in letters.into_iter().enumerate() {
-            if i % (keep as usize) == 0 {
-                self.traffic.letters.push(letter)?;
-            } else {
-                self.traffic.see(letter.lost())?;
+        let lost_between = keep.checked_sub(1).ok_or(Fault::NoSuch)?;
+        let mut letters = mem::replace(&mut self.traffic.letters, Vec::new(self.heap));
+        let mut to_lose = 0;
+        let mut seen = Ok(());
+        // Where memory is short, the letters that cannot be seen to be lost stay.
+        letters.retain(|letter| {
+            if to_lose == 0 || seen.is_err() {
+                to_lose = lost_between;
+                return true;
             }
-        }
-        Ok(())
+            to_lose -= 1;
+            seen = self.traffic.see(letter.lost());
+            seen.is_err()
+        });
+        self.traffic.letters = letters;
+        seen
     }
 
     // The letter is on its way once more.

@@ -93,8 +93,8 @@ impl Sessions {
     {
         self.open
             .iter()
-            .filter(|session| session.at.server == server)
-            .count()
+            .map(|session| usize::from(session.at.server == server))
+            .sum()
     }
 
     pub fn none_at(&self, at: Link) -> bool
