@@ -32,6 +32,12 @@ replaced_at n x ps i e = let w = written n x ps in grind (arith, w)
 pub replaced_none : (n : ℕ) (x : Place) (ps : List Place) → position (has n) ps ≡ None → ps ≡ replace_in n x ps
 replaced_none n x ps e = sym (written n x ps ∙ set_past ps (position_or_len (has n) ps) x (grind arith))
 
+-- a place written anew leaves as many as there were
+pub length_replace : (n : ℕ) (x : Place) (ps : List Place) → length (replace_in n x ps) ≡ length ps
+unfolding replace_in
+length_replace n x [] = refl
+length_replace n x (y ∷ ys) = let ih = length_replace n x ys in grind arith
+
 last : (x : Place) (ps : List Place) → oldest_in (x ∷ ps) ≡ slice_get (x ∷ ps) (length ps)
 unfolding oldest_in
 last x [] = refl
