@@ -87,12 +87,16 @@ impl Sum {
 
     // An age counts only while something waits.
     fn handover(&mut self, handover: Handover, age: u8) {
-        let (phase, link, age) = match handover {
-            Handover::Idle => (0, None, 0),
-            Handover::AwaitStood(link) => (1, Some(link), age),
-            Handover::AwaitTold(link) => (2, Some(link), age),
-        };
-        self.bytes(&[phase]);
+        match handover {
+            Handover::Idle => self.phase(0, None, 0),
+            Handover::AwaitStood(link) => self.phase(1, Some(link), age),
+            Handover::AwaitTold(link) => self.phase(2, Some(link), age),
+        }
+    }
+
+    // Called with constants for an idle bucket, as most are: its seven bytes, all zero, are then one multiplication.
+    fn phase(&mut self, number: u8, link: Option<Link>, age: u8) {
+        self.bytes(&[number]);
         self.link(link);
         self.bytes(&[age]);
     }
